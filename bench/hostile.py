@@ -134,10 +134,13 @@ def is_told(words, ended):
 
 
 def shapes_in(certificate):
-    """A text of the shapes of a certificate: its lines between the first one and the first section, but for those of functions outside, if it is of opaque text."""
+    """
+    A text of the shapes of a certificate: its lines between the first one and the first section, but for those of functions outside, if it
+    is of opaque text. One of typed text that has numbers of layouts is such a text itself.
+    """
     lines = [line for line in re.split(rb"\r?\n", certificate) if line.split(b";")[0].strip()]
     if not lines or lines[0].split(b";")[0].split() != [b"cert", b"2"]:
-        return b""
+        return certificate if any(line.split()[0] == b"number" for line in lines) else b""
     sections = [number for number, line in enumerate(lines) if line.split()[0] == b"function"]
     shapes = [line for line in lines[1:sections[0] if sections else None] if line.split()[0] != b"foreign"]
     return b"\n".join([b"shapes 1", *shapes, b""])

@@ -163,10 +163,10 @@ class Certificate:
         return self.data[section.start:section.end]
 
     def file_of_shapes(self):
-        """The shapes of the certificate as a file of their own, or None where the module writes no `ptr`."""
+        """The shapes and the numbers of layouts of the certificate as a file that `--shapes` takes, or None where it has none of them."""
         if self.version != b"cert 2":
-            return None
-        return b"\n".join([b"shapes 1", *(line for line in self.shapes if line.split(b" ")[0] in (b"layout", b"global", b"root")), b""])
+            return self.data if any(line.startswith(b"number ") for line in self.shapes) else None
+        return b"\n".join([b"shapes 1", *(line for line in self.shapes if line.split(b" ")[0] in (b"number", b"layout", b"global", b"root")), b""])
 
     def trusted(self):
         """The functions outside of the module that it trusts."""

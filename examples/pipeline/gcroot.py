@@ -7,7 +7,8 @@ IN.ll is the text after the passes mem2reg, jump-threading and instnamer. A call
 struct NAME. A safepoint comes to the head of each loop and before each call of a function of the program. A reference that
 is used after a safepoint is kept in a root slot: it is stored there where it is made, and loaded from there before each such
 use. An address is computed again after a safepoint. A reference is stored into a cell or a global by gcwrite. A branch on a
-negated test becomes one on the test.
+negated test becomes one on the test. Data, globals outside and the functions outside that are called stay as they are: dgc reads
+them with --forms wide.
 
 Says to standard error what each function got. Ends with status 1 and one line where it cannot read IN.ll.
 """
@@ -34,6 +35,8 @@ DECORATIONS = re.compile(r"(?<![\w%@.$-])(noundef|nonnull|nocapture|readonly|rea
 NAME = r"%[-\w.$]+"
 REFERENCE = re.compile(r"%struct\.\w+\*$|i8\*$|ptr$")
 SAFEPOINT = "call void @dg_safepoint()"
+CALL = r"\bcall (?P<result>\S+) (?:\([^()]*\) )?@(?P<callee>[\w.$]+)\("  # the types of the parameters may stand before the name
+DATA = re.compile(r"@\S+ = (?:[\w()]+ )*?(?:(?:external|extern_weak) .*|(?:global|constant) (?:[\[{<]|%[-\w.$]+(?!\S)).*)$")
 
 
 def plain(line):
@@ -58,7 +61,7 @@ class Function:
         self.count = 0
 
     def calls(self):
-        return {name for block in self.blocks.values() for line in block for name in re.findall(r"\bcall \S+ @([\w.$]+)\(", line)}
+        return {found["callee"] for block in self.blocks.values() for line in block for found in re.finditer(CALL, line)}
 
     def fresh(self, name):
         self.count += 1
@@ -93,7 +96,7 @@ class Function:
                 if not made:
                     continue
                 name, rest = made.groups()
-                kind = re.match(r"load ([^,]+),|phi (\S+) \[|select i1 [^,]+, (\S+) |call (\S+) @", rest)
+                kind = re.match(r"load ([^,]+),|phi (\S+) \[|select i1 [^,]+, (\S+) |call (\S+) (?:\([^()]*\) )?@", rest)
                 cast = re.match(rf"bitcast (\S+) ({NAME}) to (\S+)", rest)
                 if rest.startswith("alloca"):
                     found[name] = ("slot", rest.split()[1])
@@ -134,8 +137,8 @@ class Lowering:
         self.slots, self.stores = [], {}
 
     def is_safepoint(self, line):
-        called = re.search(r"\bcall \S+ @([\w.$]+)\(", line)
-        return bool(called) and (called[1] == "dg_safepoint" or called[1] in self.may)
+        called = re.search(CALL, line)
+        return bool(called) and (called["callee"] == "dg_safepoint" or called["callee"] in self.may)
 
     def turn_branches(self):
         """A branch on a negated test becomes one on the test, since nothing is known where a negation is true."""
@@ -157,12 +160,12 @@ class Lowering:
                     lines.append(SAFEPOINT)
                     waits = False
                 claim = re.match(rf"({NAME}) = call (\S+) @new_(\w+)\(\)", line)
-                called = re.search(r"\bcall \S+ @([\w.$]+)\(", line)
+                called = re.search(CALL, line)
                 if claim:
                     name, kind, layout = claim.groups()
                     lines += self.claim(name, kind, self.layouts.index(layout))
                     continue
-                if called and not called[1].startswith("llvm.") and called[1] not in self.outside:
+                if called and not called["callee"].startswith("llvm.") and called["callee"] not in self.outside:
                     lines.append(SAFEPOINT)
                 lines.append(line)
             block[:] = lines
@@ -378,7 +381,7 @@ def is_opaque(text):
 def module_of(text, names=None):
     """The module of these functions, or of all, as gcroot code."""
     types = [plain(line) for line in text.split("\n") if re.match(r"%struct\.\w+ = type \{", line)]
-    globals_of = [plain(line) for line in text.split("\n") if re.match(r"@\S+ = ", line)]
+    globals_of = [line if DATA.match(line) else plain(line) for line in text.split("\n") if re.match(r"@\S+ = ", line)]
     layouts = [re.match(r"%struct\.(\w+)", line)[1] for line in types]
     functions = functions_of(text)
     names = list(functions) if names is None else names
@@ -393,14 +396,18 @@ def module_of(text, names=None):
     return "\n".join(types + globals_of) + "\n" + runtime + declares + "\n".join(bodies) + "\n"
 
 
+def without_copies(text):
+    """The text with a declaration in place of each definition that is a copy of a function outside, as of one that a header of C has."""
+    return re.sub(r"^define available_externally ([^\n]*) \{\n.*?^\}", r"declare \1", text, flags=re.M | re.S)
+
+
 def outside_of(text):
-    """The lines that declare functions outside of the program which take and give numbers, by their names."""
-    declared = re.findall(r"^declare [^\n]*?\b(void|i\d+) @([\w.$]+)\(([^()\n]*)\)", text, re.M)
+    """The lines that declare functions outside of the program which give a number or nothing, by their names."""
     outside = {}
-    for result, name, parameters in declared:
-        types = [it.split()[0] for it in parameters.split(",") if it.strip()]
-        if not name.startswith("llvm.") and all(re.fullmatch(r"i\d+", it) for it in types):
-            outside[name] = f"declare {result} @{name}({', '.join(types)})"
+    for line in map(plain, re.findall(r"^declare [^\n]*", text, re.M)):
+        found = re.match(r"declare (void|i\d+|float|double) @([\w.$]+)\((.*)\)$", line)
+        if found and not found[2].startswith(("llvm.", "new_")):
+            outside[found[2]] = line
     return outside
 
 
@@ -409,6 +416,9 @@ def fault(text):
     code = code_of(text)
     if re.search(r"%\d", code) or re.search(r"^define [^\n]*\n(?![-\w.$]+:)", code, re.M):
         return "it has values or blocks without names: run the pass instnamer"
+    unread = [line for line in re.findall(r"^define [^\n]*", text, re.M) if not re.match(r"define \S+ @[\w.$]+\(", plain(line))]
+    if unread:
+        return f"it does not read this line: {unread[0]}"
     functions = functions_of(text)
     if not functions:
         return "it defines no function"
@@ -419,7 +429,7 @@ def fault(text):
             if called.startswith("new_") and called[4:] not in structs:
                 return f"@{function.name} calls @{called}, and there is no struct {called[4:]}"
             if not called.startswith(("new_", "llvm.")) and called not in outside:
-                return f"@{function.name} calls @{called}, which the program does not define, and which is not declared to take and give numbers alone"
+                return f"@{function.name} calls @{called}, which the program does not define, and which does not give a number or nothing"
     return None
 
 
@@ -438,7 +448,7 @@ def main():
     options = parser.parse_args()
     try:
         with open(options.text, encoding="utf-8") as file:
-            text = file.read()
+            text = without_copies(file.read())
     except OSError as error:
         sys.exit(f"gcroot.py: {options.text}: {error.strerror}")
     wrong = fault(text)

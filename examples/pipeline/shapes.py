@@ -36,7 +36,7 @@ class Module:
     def __init__(self, text):
         self.structs = dict(re.findall(rf"^({NAME}) = type (\{{.*\}})$", text, re.M))
         self.layouts = list(self.structs)
-        self.globals = re.findall(rf"^({GLOBAL}) = [^\n]*?\bptr null", text, re.M)
+        self.globals = re.findall(rf"^({GLOBAL}) = (?:[\w()]+ )*?(?:global|constant) ptr null", text, re.M)
         self.functions = re.findall(rf"^define \S+ ({GLOBAL})\((.*?)\)[^\n]*\{{\n(.*?)^\}}", text, re.M | re.S)
         self.parameters = {name: [part.split()[-1] for part in parts(given)] for name, given, _ in self.functions}
         self.same, self.known = {}, {}
@@ -162,7 +162,7 @@ class Body:
             self.join(found[1], found[2])
         elif found := re.match(rf"bitcast ptr ({VALUE}) to ptr", rest):
             self.same(made, found[1])
-        elif found := re.match(rf"call \S+ ({GLOBAL})\((.*)\)", rest):
+        elif found := re.match(rf"call \S+ (?:\([^()]*\) )?({GLOBAL})\((.*)\)", rest):
             self.call(made, found[1], parts(found[2]))
         elif (found := re.match(rf"ret ptr ({VALUE})", rest)) and found[1] != "null":
             self.m.join(self.value(found[1]), ("result", self.name))

@@ -1,7 +1,7 @@
 -- What is asked of a call of a function that is known, and what is known after it, does not depend on functions.
 use Rattle.std.specs.List.{list_all}
-use Rattle.std.specs.Prelude.{Bool, List, None, Option, Some, [], false, not, refl, ℕ, ◌&&◌, ◌||◌, ◌∷◌, ◌≡◌}
-use Rattle.block_rules.specs.Calls.{after_defined, after_integer_call, all_available, all_current, all_taken, all_values, alloc_conditions, are_root_arguments, defined_conditions, drop_arguments, foreign_conditions, integer_conditions, is_foreign_argument, is_taken, is_unrooted, is_written_to, is_written_with, may_root, no_slots, number_layouts, numbers_layout, read_call_conditions, receive_result, refused_conditions, root_conditions, safepoint_conditions, takes_address, takes_slot, write_call_conditions}
+use Rattle.std.specs.Prelude.{Bool, List, None, Option, Some, [], false, not, refl, slice_get, ℕ, ◌&&◌, ◌||◌, ◌∷◌, ◌≡◌}
+use Rattle.block_rules.specs.Calls.{after_alloc_call, after_defined, after_integer_call, all_available, all_current, all_taken, all_values, alloc_conditions, are_root_arguments, defined_conditions, drop_arguments, foreign_conditions, integer_conditions, is_foreign_argument, is_taken, is_unrooted, is_written_to, is_written_with, may_root, no_slots, number_layouts, numbers_layout, read_call_conditions, receive_result, refused_conditions, root_conditions, safepoint_conditions, takes_address, takes_slot, write_call_conditions}
 use Rattle.block_rules.specs.Integers.{define_number}
 use Rattle.block_rules.specs.Operands.{is_no_opaque_slot, is_null, known_fits, known_of, slot_named}
 use Rattle.block_rules.specs.Promises.{callee_mark, given_by, promised_in, promises_in, show_promises}
@@ -13,14 +13,18 @@ use Rattle.fact_tables.specs.Rows.{slot_at}
 use Rattle.facts.specs.Facts.{FactSet}
 use Rattle.facts.specs.Claims.{receive}
 use Rattle.ir_ast.specs.declared.argument.Argument.{Argument}
+use Rattle.ir_ast.specs.declared.items_of_module.SymbolSort.{SymbolSort}
+use Rattle.ir_ast.specs.declared.items_of_module.SymbolSort.TheVariants.{Declared}
 use Rattle.ir_ast.specs.declared.function.Function.{Function}
 use Rattle.ir_ast.specs.declared.module.Module.{Module}
 use Rattle.ir_ast.specs.declared.operand.Operand.{Operand}
-use Rattle.ir_ast.specs.declared.operand.Operand.TheVariants.{Constant as Written}
+use Rattle.ir_ast.specs.declared.operand.Operand.TheVariants.{Global, CastGlobal}
 use Rattle.ir_ast.specs.declared.runtime.Runtime.TheVariants.{Alloc, GcRead, GcRoot, GcWrite, Safepoint}
 use Rattle.layout.specs.Layouts.{LaidOut}
 use Rattle.safepoints.specs.Marks.{after_mark, is_may, marks_agree}
 use Rattle.shadow_stack.specs.Slots.{SlotTable}
+use Rattle.types.specs.RuntimeCall.{is_outside_sort}
+use Rattle.outside_names.specs.Operands.{is_outside_operand}
 use Rattle.answers.proofs.Operands.{is_of_type_same, is_typed_same, is_value_same, kind_of_same, slot_kind_same}
 use Rattle.answers.proofs.Places.{read_conditions_same, write_conditions_same}
 use Rattle.answers.proofs.Signature.{is_written_as_same}
@@ -48,14 +52,19 @@ pub may_root_same : (m : Module) (fs : List Function) → may_root (with_functio
 may_root_same m fs = λ along slots facts in_head arguments. may_root_by m fs slots facts in_head arguments along
 
 numbers_layout_by : (m : Module) (fs : List Function) (operand : Operand) → numbers_layout (with_functions m fs) operand ≡ numbers_layout m operand
-numbers_layout_by m fs (Written c) = refl
-numbers_layout_by m fs _ = refl
+numbers_layout_by m fs operand = refl
 
 pub numbers_layout_same : (m : Module) (fs : List Function) → numbers_layout (with_functions m fs) ≡ numbers_layout m
 numbers_layout_same m fs = λ along operand. numbers_layout_by m fs operand along
 
 pub number_layouts_same : (m : Module) (fs : List Function) → number_layouts (with_functions m fs) ≡ number_layouts m
 number_layouts_same m fs = λ along arguments. list_all (λ argument. numbers_layout_same m fs along argument.operand) arguments
+
+-- after a call of dg_alloc the same is known
+pub after_alloc_same : (m : Module) (fs : List Function) (result : Option ℕ) (arguments : List Argument) (facts : FactSet) → after_alloc_call (with_functions m fs) result arguments facts ≡ after_alloc_call m result arguments facts
+after_alloc_same m fs None arguments facts = refl
+after_alloc_same m fs (Some v) [] facts = refl
+after_alloc_same m fs (Some v) (number ∷ rest) facts = refl
 
 pub root_conditions_same : (m : Module) (fs : List Function) → root_conditions (with_functions m fs) ≡ root_conditions m
 root_conditions_same m fs = λ along f slots here facts returned arguments. (K1, all_available slots facts arguments)
@@ -89,9 +98,21 @@ defined_conditions_same m fs = λ along f slots here facts returned arguments ca
     ∷ (K13, show_promises facts arguments (promises_in section))
     ∷ (K17, marks_agree here.mark (callee_mark section)) ∷ []
 
+is_outside_sort_by : (m : Module) (fs : List Function) (sort : Option SymbolSort) → is_outside_sort (with_functions m fs) sort ≡ is_outside_sort m sort
+is_outside_sort_by m fs (Some (Declared d)) = refl
+is_outside_sort_by m fs _ = refl
+
+is_outside_operand_by : (m : Module) (fs : List Function) (operand : Operand) → is_outside_operand (with_functions m fs) operand ≡ is_outside_operand m operand
+is_outside_operand_by m fs (Global symbol) = is_outside_sort_by m fs (slice_get m.sorts symbol)
+is_outside_operand_by m fs (CastGlobal from symbol to) = is_outside_sort_by m fs (slice_get m.sorts symbol)
+is_outside_operand_by m fs _ = refl
+
+pub is_outside_operand_same : (m : Module) (fs : List Function) → is_outside_operand (with_functions m fs) ≡ is_outside_operand m
+is_outside_operand_same m fs = λ along operand. is_outside_operand_by m fs operand along
+
 pub is_foreign_argument_same : (m : Module) (fs : List Function) → is_foreign_argument (with_functions m fs) ≡ is_foreign_argument m
 is_foreign_argument_same m fs = λ along f slots facts argument. (is_integer (kind_of_same m fs along argument.written) && is_value_same m fs along f slots facts argument.written argument.operand)
-    || (is_null argument.operand && is_pointer (kind_of_same m fs along argument.written))
+    || ((is_null argument.operand || is_outside_operand_same m fs along argument.operand) && is_pointer (kind_of_same m fs along argument.written))
 
 pub foreign_conditions_same : (m : Module) (fs : List Function) → foreign_conditions (with_functions m fs) ≡ foreign_conditions m
 foreign_conditions_same m fs = λ along f slots here facts returned arguments called. (K1, all_available slots facts arguments)
@@ -100,8 +121,9 @@ foreign_conditions_same m fs = λ along f slots here facts returned arguments ca
     ∷ (K12, here.may_move_references) ∷ []
 
 pub is_taken_same : (m : Module) (fs : List Function) → is_taken (with_functions m fs) ≡ is_taken m
-is_taken_same m fs = λ along f slots facts named argument. is_typed_same m fs along f argument.written argument.operand
-    && (takes_address named || (known_fits (kind_of_same m fs along argument.written) (known_of facts argument.operand) && (takes_slot named || is_no_opaque_slot m slots argument.written argument.operand)))
+is_taken_same m fs = λ along f slots facts named argument. (is_outside_operand_same m fs along argument.operand && is_pointer (kind_of_same m fs along argument.written))
+    || (is_typed_same m fs along f argument.written argument.operand
+    && (takes_address named || (known_fits (kind_of_same m fs along argument.written) (known_of facts argument.operand) && (takes_slot named || is_no_opaque_slot m slots argument.written argument.operand))))
 
 pub all_taken_same : (m : Module) (fs : List Function) → all_taken (with_functions m fs) ≡ all_taken m
 all_taken_same m fs = λ along f slots facts named arguments. list_all (is_taken_same m fs along f slots facts named) arguments

@@ -27,7 +27,7 @@ use Rattle.block_rules.specs.Signature.{signature_of, is_declared_as, is_foreign
 use Rattle.block_rules.specs.Calls.{all_available, all_current, no_slots, is_written_for, is_written_with, defined_conditions, call_conditions, drop_arguments, after_call}
 use Rattle.answers.specs.Local.{with_functions, laid_with, types_of, Interface, function_of_sort, IfThere, LooksSame}
 use Rattle.answers.proofs.Signature.{callable_declare_same}
-use Rattle.answers.proofs.Calls.{all_values_same, root_conditions_same, alloc_conditions_same, safepoint_conditions_same, integer_conditions_same, foreign_conditions_same, read_call_conditions_same, write_call_conditions_same, refused_conditions_same, receive_result_same, after_integer_call_same}
+use Rattle.answers.proofs.Calls.{after_alloc_same, all_values_same, root_conditions_same, alloc_conditions_same, safepoint_conditions_same, integer_conditions_same, foreign_conditions_same, read_call_conditions_same, write_call_conditions_same, refused_conditions_same, receive_result_same, after_integer_call_same}
 use Rattle.answers.proofs.Places.{after_read_call_same}
 
 -- ---- types
@@ -162,7 +162,7 @@ module _ (p : LaidOut) (certs : List Section) (fs : List Function) (others : Lis
   -- what is known after a call
   pub after_call_same : (slots : SlotTable) (result : Option ℕ) (returned : ℕ) (arguments : List Argument) (callee : Callee) (facts : FactSet) → IfDefined Same callee
       → after_call (laid_with p fs) others slots result returned arguments callee facts ≡ after_call p certs slots result returned arguments callee facts
-  after_call_same slots result returned arguments (OfRuntime Alloc) facts h = refl
+  after_call_same slots result returned arguments (OfRuntime Alloc) facts h = after_alloc_same p.of_module fs result arguments facts
   after_call_same slots result returned arguments (OfRuntime GcRoot) facts h = refl
   after_call_same slots result returned arguments (OfRuntime Safepoint) facts h = refl
   after_call_same slots result returned arguments (OfRuntime GcRead) facts h = λ along. after_read_call_same p fs along result arguments facts

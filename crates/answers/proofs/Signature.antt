@@ -46,7 +46,7 @@ is_written_as_same m fs = λ along returned arguments runtime. let signature = s
     is_runtime_type_same m fs along returned signature.returned && list_all (is_argument_of_same m fs along) (zip arguments signature.parameters)
 
 pub is_foreign_same : (m : Module) (fs : List Function) → is_foreign (with_functions m fs) ≡ is_foreign m
-is_foreign_same m fs = λ along arguments declared. m.wide && (list_any (λ s. s == declared.symbol) m.trusted
+is_foreign_same m fs = λ along arguments declared. m.wide && (list_any (λ s. s == declared.symbol) m.trusted.functions
     && ((is_void (kind_of_same m fs along declared.returned) || is_integer (kind_of_same m fs along declared.returned)) && (arguments == length declared.parameters)))
 
 callable_by : (m : Module) (fs : List Function) (arguments number : ℕ) (declared : Declare) (runtime : Option Runtime) → callable (with_functions m fs) arguments number declared runtime ≡ callable m arguments number declared runtime

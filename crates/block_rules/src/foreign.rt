@@ -13,6 +13,7 @@ use crate::rule::Rule;
 use crate::type_kind::TypeKind;
 use facts::Facts;
 use ir_ast::{Argument, DeclareId, Module, TypeId};
+use outside_names::is_outside_operand;
 
 /// The rule that a call of the declared function with this number breaks, if it breaks one.
 pub fn foreign_refusal(
@@ -37,13 +38,13 @@ pub fn foreign_refusal(
     ])
 }
 
-/// Whether an argument is a number of the type that is written, or null.
+/// Whether an argument is a number of the type that is written, null, or an address outside.
 fn is_foreign_argument(context: &RuleContext, facts: &Facts, argument: &Argument) -> bool
     ensures { result ≡ is_foreign_argument context.now.program.now.of_module context.now.function.now context.now.slots.now facts.now argument.now }
 {
     (TypeKind::of(context.module(), argument.written).is_integer()
         && is_value(context, facts, argument.written, &argument.operand))
-        || (is_null(&argument.operand)
+        || ((is_null(&argument.operand) || is_outside_operand(context.module(), &argument.operand))
             && TypeKind::of(context.module(), argument.written).is_pointer())
 }
 

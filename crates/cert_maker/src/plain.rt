@@ -4,7 +4,7 @@ ghost use Rattle.certs.specs.Fits.{fits};
 ghost use Rattle.certs.specs.Plain.{plain, plain_section};
 
 use certs::{Certs, Claim, Mark, Promise, Section};
-use ir_ast::{Block, Function, Module, Parameter};
+use ir_ast::{Block, Function, Module, Outside, Parameter};
 use items::Items;
 use std::alloc::{AllocError, Global};
 
@@ -17,7 +17,7 @@ pub fn plain(alloc: Global, of_module: &Module) -> Result<Certs, AllocError>
     Ok(Certs {
         sections,
         shapes: None,
-        foreign: Items::new(alloc),
+        foreign: Outside::none(alloc),
     })
 }
 

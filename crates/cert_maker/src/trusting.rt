@@ -1,8 +1,8 @@
 //! Certificates of modules that trust the functions outside that they call.
 ghost use Rattle.std.specs.Prelude.{◌≡◌, Some, true, IfOk};
-ghost use Rattle.cert_maker.specs.Trusting.{IsMadeTrusting};
+ghost use Rattle.cert_maker.specs.Trusting.{IsMadeTrusting, with_trusted};
 ghost use Rattle.certs.specs.ShapesFit.{shapes_fit};
-ghost use Rattle.layout.specs.Functions.{with_certified, with_shapes};
+ghost use Rattle.layout.specs.Functions.{with_shapes};
 
 use crate::made::{MakeFault, NotMade};
 use crate::maker;
@@ -28,8 +28,8 @@ pub fn make_seen(
 ) -> Result<Accepted, NotMade>
     ensures { IsMadeTrusting of_module result }
 {
-    let trusted = match to_trust(alloc, &of_module) {
-        Ok(trusted) => trusted,
+    let functions = match to_trust(alloc, &of_module) {
+        Ok(functions) => functions,
         Err(_) => {
             return Err(NotMade {
                 fault: MakeFault::Memory,
@@ -38,20 +38,20 @@ pub fn make_seen(
             });
         }
     };
-    let (anew, own) = with_trusted(of_module, trusted);
+    let (anew, own) = with_trusted(of_module, functions);
     match maker::make_seen(alloc, anew, seen) {
         Ok(accepted) => Ok(accepted),
         Err(unmade) => Err(given_back(unmade, own)),
     }
 }
 
-/// The module with this in place of what it trusts, and that.
-fn with_trusted(of_module: Module, trusted: Items<SymbolId>) -> (Module, Items<SymbolId>)
-    ensures of_module { result.0 ≡ with_certified of_module of_module.shapes trusted }
-    ensures own { result.1 ≡ of_module.trusted }
+/// The module with these functions in place of those that it trusts, and those.
+fn with_trusted(of_module: Module, functions: Items<SymbolId>) -> (Module, Items<SymbolId>)
+    ensures of_module { result.0 ≡ with_trusted of_module functions }
+    ensures own { result.1 ≡ of_module.trusted.functions }
 {
     let mut of_module = of_module;
-    let own = mem::replace(&mut of_module.trusted, trusted);
+    let own = mem::replace(&mut of_module.trusted.functions, functions);
     (of_module, own)
 }
 
@@ -66,12 +66,12 @@ pub fn make_with(alloc: Global, of_module: Module, shapes: Shapes) -> Result<Acc
     make(alloc, of_module)
 }
 
-/// The same, with the module that trusts this.
+/// The same, with the module that trusts these functions.
 fn given_back(unmade: NotMade, own: Items<SymbolId>) -> NotMade
-    ensures { result ≡ record unmade { of_module = with_certified unmade.of_module unmade.of_module.shapes own } }
+    ensures { result ≡ record unmade { of_module = with_trusted unmade.of_module own } }
 {
     let mut of_module = unmade.of_module;
-    of_module.trusted = own;
+    of_module.trusted.functions = own;
     NotMade {
         fault: unmade.fault,
         of_module,

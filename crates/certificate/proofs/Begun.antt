@@ -1,7 +1,6 @@
 -- The shapes before a text of a module are one, so a text says the same and has the same fault wherever its reading begins with them.
 use Rattle.std.proofs.Common.{◌≡◌, Bool, true, false, List, ap, sym, subst, ◌∙◌}
 use Rattle.ir_ast.specs.declared.module.Module.{Module}
-use Rattle.ir_ast.specs.declared.shapes.Shapes.{Shapes}
 use Rattle.ir_tokens.specs.Bytes.{Text}
 use Rattle.layout.specs.PointerRows.{one_rows}
 use Rattle.name_text.specs.declared.found.WordFault.{WordFault}
@@ -13,6 +12,7 @@ use Rattle.certificate.specs.ShapeText.{AreShapes, IsShapesFault}
 use Rattle.certificate.specs.Starts.{AreBegun, AreStart, are_begun_if, may_be_shaped}
 use Rattle.certificate.specs.Text.{file, placed, IsCert, IsFault}
 use Rattle.certificate.specs.declared.fault.CertFault.{CertFault}
+use Rattle.certificate.specs.declared.given_shapes.GivenShapes.{GivenShapes}
 use Rattle.certificate.specs.declared.mistake.Mistake.{Mistake}
 use Rattle.certificate.specs.declared.shape_draft.ShapeDraft.{ShapeDraft}
 
@@ -42,13 +42,13 @@ fault_from bytes m fault shapes start is = subst (HasCertFault bytes m fault) (o
 
 -- ---- texts of shapes
 
-abbrev pub SaysShapes : Text → Module → Shapes → ShapeDraft → Type 0
+abbrev pub SaysShapes : Text → Module → GivenShapes → ShapeDraft → Type 0
 SaysShapes bytes m shapes begun = (o : Input) × (text m).says (start_of m begun bytes) shapes o
 
 abbrev pub HasShapesFault : Text → Module → CertFault → ShapeDraft → Type 0
 HasShapesFault bytes m fault begun = (found : WordFault Mistake) × (text m).stuck (start_of m begun bytes) found × (placed bytes found ≡ fault)
 
-pub shapes_from : (bytes : Text) (m : Module) (shapes : Shapes) (begun : ShapeDraft) → AreBegun m begun → AreShapes bytes m shapes → SaysShapes bytes m shapes begun
+pub shapes_from : (bytes : Text) (m : Module) (shapes : GivenShapes) (begun : ShapeDraft) → AreBegun m begun → AreShapes bytes m shapes → SaysShapes bytes m shapes begun
 shapes_from bytes m shapes begun are is = subst (SaysShapes bytes m shapes) (one_begun m is.0 begun is.1 are) (is.2, is.3)
 
 pub shapes_fault_from : (bytes : Text) (m : Module) (fault : CertFault) (begun : ShapeDraft) → AreBegun m begun → IsShapesFault bytes m fault → HasShapesFault bytes m fault begun

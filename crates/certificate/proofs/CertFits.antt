@@ -1,7 +1,8 @@
--- The sections and the functions outside that a text is are those of the module.
+-- The sections that a text is, and what it says of the code outside, are those of the module.
 use Rattle.std.proofs.Common.{◌≡◌, Bool, true, false, [], ◌∷◌, codes, List, ℕ, length, Option, ap, sym, subst, ◌∙◌}
 use Rattle.std.specs.List.{list_all, zip}
 use Rattle.ir_ast.specs.declared.module.Module.{Module}
+use Rattle.ir_ast.specs.declared.outside.Outside.{Outside}
 use Rattle.ir_tokens.specs.Bytes.{Text as Bytes}
 use Rattle.certs.specs.Fits.{fits}
 use Rattle.certs.specs.ForeignFit.{foreign_fits}
@@ -14,7 +15,7 @@ use Rattle.certificate.specs.Input.{Input, start_of, unshaped}
 use Rattle.certificate.specs.ShapeForms.{taken_shapes}
 use Rattle.certificate.specs.Text as text
 use Rattle.certificate.specs.Text.{IsCert}
-use Rattle.certificate.proofs.ReadForeign.{names_are}
+use Rattle.certificate.proofs.ReadOutside.{outside_are}
 use Rattle.certificate.proofs.ReadFits.{Fine, kept_fits, sections_are, none_kept, finished_is}
 use Rattle.certificate.proofs.ReadShapes.{lines_keep, still_missing}
 use Rattle.certificate.proofs.ReadWords.{still, Still, still_taken, still_expect, still_line_end}
@@ -32,8 +33,8 @@ sections_fine : (m : Module) (i : Input) (u : Unit {0}) (o : Input) → (text.se
 unfolding text.sections
 sections_fine m i u o h start = subst (Fine m) h.3.1 (sections_are m i h.0 h.1 h.2 start)
 
--- so they do after the functions outside, which are these
-head_fits : (m : Module) (foreign : List ℕ) (shaped : Bool) (i : Input) (certs : Certs) (o : Input) → (text.certs_by m foreign shaped).says i certs o → Fine m i → fits m certs.sections ≡ true
+-- so they do after what is said of the code outside, which is this
+head_fits : (m : Module) (foreign : Outside) (shaped : Bool) (i : Input) (certs : Certs) (o : Input) → (text.certs_by m foreign shaped).says i certs o → Fine m i → fits m certs.sections ≡ true
 unfolding text.without_shapes text.with_shapes taken_shapes unshaped
 head_fits m foreign false i certs o h start =
     let b = h.3 in
@@ -49,13 +50,13 @@ head_fits m foreign true i certs o h start =
     let whole : Fine m d.1 = subst (λ (x : Input). Fine m x) (still_missing m b.0 c.1 d.0 d.1 d.2) read in
     subst (λ (x : Certs). fits m x.sections ≡ true) e.3.0 (finished_is m d.1 e.0 e.1 e.2 whole)
 
--- the functions outside are those that were read
-foreign_read : (m : Module) (foreign : List ℕ) (shaped : Bool) (i : Input) (certs : Certs) (o : Input) → (text.certs_by m foreign shaped).says i certs o → foreign ≡ certs.foreign
+-- what is said of the code outside is what was read
+foreign_read : (m : Module) (foreign : Outside) (shaped : Bool) (i : Input) (certs : Certs) (o : Input) → (text.certs_by m foreign shaped).says i certs o → foreign ≡ certs.foreign
 unfolding text.without_shapes text.with_shapes
 foreign_read m foreign false i certs o h = ap (λ (x : Certs). x.foreign) h.3.3.0
 foreign_read m foreign true i certs o h = ap (λ (x : Certs). x.foreign) h.3.3.3.3.3.0
 
--- what is read before the functions outside is what is there before the text
+-- what is read before that is what is there before the text
 pub still_head : (m : Module) (i : Input) (a : Unit {0}) (j : Input) → (expect {M = Mistake} (codes "cert")).says i a j → (shaped : Bool) (k : Input) → (text.version m).says j shaped k → (b : Unit {0}) (o : Input) → (line_end {M = Mistake}).says k b o → still i ≡ still o
 still_head m i a j one shaped k two b o three = still_expect (codes "cert") i a j one ∙ still_version m j shaped k two ∙ still_line_end k b o three
 
@@ -69,11 +70,11 @@ cert_fits bytes m certs h =
     let d = c.3 in
     let same = still_head m (start_of m h.0 bytes) a.0 a.1 a.2 b.0 b.1 b.2 c.0 c.1 c.2 in
     let start : Fine m c.1 = subst (λ (x : Input). Fine m x) same (none_kept m m.functions) in
-    let names = names_are m c.1 d.0 d.1 d.2 (sym (ap (λ (x : Input). x.read.foreign) same)) in
+    let names = outside_are m c.1 d.0 d.1 d.2 (sym (ap (λ (x : Input). x.read.numbers) same)) (sym (ap (λ (x : Input). x.read.foreign) same)) in
     let after : Fine m d.1 = subst (FineAt m) names.1 start in
     head_fits m d.0 b.0 d.1 certs h.2 d.3 after
 
--- and so do the functions outside
+-- and so does what is said of the code outside
 pub cert_foreign : (bytes : Bytes) (m : Module) (certs : Certs) → IsCert bytes m certs → foreign_fits m certs.foreign ≡ true
 unfolding text.file
 cert_foreign bytes m certs h =
@@ -82,5 +83,5 @@ cert_foreign bytes m certs h =
     let c = b.3 in
     let d = c.3 in
     let same = still_head m (start_of m h.0 bytes) a.0 a.1 a.2 b.0 b.1 b.2 c.0 c.1 c.2 in
-    let names = names_are m c.1 d.0 d.1 d.2 (sym (ap (λ (x : Input). x.read.foreign) same)) in
+    let names = outside_are m c.1 d.0 d.1 d.2 (sym (ap (λ (x : Input). x.read.numbers) same)) (sym (ap (λ (x : Input). x.read.foreign) same)) in
     subst (λ x. foreign_fits m x ≡ true) (foreign_read m d.0 b.0 d.1 certs h.2 d.3) names.0

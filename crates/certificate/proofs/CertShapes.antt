@@ -12,6 +12,7 @@ use Rattle.ir_ast.specs.declared.items_of_module.Global.{Global}
 use Rattle.ir_ast.specs.declared.items_of_module.SymbolSort.{SymbolSort}
 use Rattle.ir_ast.specs.declared.memory.MemoryOp.TheVariants.{Alloca}
 use Rattle.ir_ast.specs.declared.module.Module.{Module}
+use Rattle.ir_ast.specs.declared.outside.Outside.{Outside}
 use Rattle.ir_ast.specs.declared.op.Op.{Op}
 use Rattle.ir_ast.specs.declared.op.Op.TheVariants.{Memory}
 use Rattle.ir_ast.specs.declared.shapes.RootShapes.{RootShapes}
@@ -39,7 +40,7 @@ use Rattle.certificate.specs.declared.mistake.Mistake.TheVariants.{MissingGlobal
 use Rattle.certificate.specs.declared.shape_draft.ShapeDraft.{ShapeDraft}
 use Rattle.certificate.proofs.Between.{all_set}
 use Rattle.certificate.proofs.CertFits.{still_head}
-use Rattle.certificate.proofs.ReadForeign.{names_are}
+use Rattle.certificate.proofs.ReadOutside.{outside_are}
 use Rattle.certificate.proofs.ReadShapes.{IsTarget, Gives, lines_hold, none_is_missing}
 use Rattle.certificate.proofs.ReadWords.{taken_is}
 
@@ -299,8 +300,8 @@ fit_if m shapes false e all = ap not e
 pub opaque_begun : (m : Module) (shapes : ShapeDraft) → is_opaque_text m ≡ true → AreStart m shapes → AreBegun m shapes
 opaque_begun m shapes e start = let may : may_be_shaped m ≡ true = ap (λ b. b || not (has_typed m.types)) e in subst (λ b. are_begun_if b m shapes) may start
 
--- the shapes after the functions outside fit, if they were begun where the text is opaque
-head_shaped : (m : Module) (foreign : List ℕ) (i : Input) (certs : Certs) (o : Input) → HasGlobals m → (is_opaque_text m ≡ true → AreBegun m i.read.shapes) → (text.with_shapes m foreign).says i certs o → shapes_fit m certs.shapes ≡ true
+-- the shapes after what is said of the code outside fit, if they were begun where the text is opaque
+head_shaped : (m : Module) (foreign : Outside) (i : Input) (certs : Certs) (o : Input) → HasGlobals m → (is_opaque_text m ≡ true → AreBegun m i.read.shapes) → (text.with_shapes m foreign).says i certs o → shapes_fit m certs.shapes ≡ true
 unfolding text.with_shapes taken_shapes
 head_shaped m foreign i certs o named begun h =
     let b = h.3 in
@@ -324,10 +325,10 @@ cert_shaped bytes m certs named h =
     let c = b.3 in
     let d = c.3 in
     let same = still_head m (start_of m h.0 bytes) a.0 a.1 a.2 b.0 b.1 b.2 c.0 c.1 c.2 in
-    let names = names_are m c.1 d.0 d.1 d.2 (sym (ap (λ (x : Input). x.read.foreign) same)) in
+    let names = outside_are m c.1 d.0 d.1 d.2 (sym (ap (λ (x : Input). x.read.numbers) same)) (sym (ap (λ (x : Input). x.read.foreign) same)) in
     let start : h.0 ≡ d.1.read.shapes = ap (λ (x : Input). x.read.shapes) same ∙ names.2 in
     by d.0 b.0 d.1 (λ is. version_one m a.1 b.0 b.1 b.2 is) (λ opaque. subst (AreBegun m) start (opaque_begun m h.0 opaque h.1)) d.3
   where
-    by : (foreign : List ℕ) (shaped : Bool) (i : Input) → (shaped ≡ false → is_opaque_text m ≡ false) → (is_opaque_text m ≡ true → AreBegun m i.read.shapes) → (text.certs_by m foreign shaped).says i certs h.2 → shapes_fit m certs.shapes ≡ true
+    by : (foreign : Outside) (shaped : Bool) (i : Input) → (shaped ≡ false → is_opaque_text m ≡ false) → (is_opaque_text m ≡ true → AreBegun m i.read.shapes) → (text.certs_by m foreign shaped).says i certs h.2 → shapes_fit m certs.shapes ≡ true
     by foreign true i typed begun says = head_shaped m foreign i certs h.2 named begun says
     by foreign false i typed begun says = subst (λ (x : Certs). shapes_fit m x.shapes ≡ true) says.3.3.0 (ap not (typed refl))

@@ -6,6 +6,7 @@ use Rattle.lemmas.specs.Lists.{get_some}
 use Rattle.ir_ast.specs.declared.function.Function.{Function}
 use Rattle.ir_ast.specs.declared.items_of_module.StructType.{StructType}
 use Rattle.ir_ast.specs.declared.module.Module.{Module}
+use Rattle.ir_ast.specs.declared.outside.Outside.{Outside}
 use Rattle.ir_ast.specs.declared.shapes.Shapes.{Shapes}
 use Rattle.ir_tokens.specs.Bytes.{Text}
 use Rattle.layout.specs.PointerRows.{ArePointerRows}
@@ -26,7 +27,7 @@ use Rattle.certificate.specs.declared.shape_draft.ShapeDraft.{ShapeDraft}
 use Rattle.certificate.proofs.CertFits.{still_head}
 use Rattle.certificate.proofs.CertShapes.{Shaped, map_at, slot_there, first_none, begun_shaped, lines_shaped, shaped_fit, version_one, opaque_begun}
 use Rattle.certificate.proofs.ReadShapes.{none_is_missing}
-use Rattle.certificate.proofs.ReadForeign.{names_are}
+use Rattle.certificate.proofs.ReadOutside.{outside_are}
 
 -- ---- what is not missing is there
 
@@ -114,7 +115,7 @@ whole_if : (m : Module) (shapes : Shapes) (opaque : Bool) → is_opaque_text m �
 whole_if m shapes true e all = let both = all refl in (e, both.0, both.1, both.2)
 whole_if m shapes false e all = e
 
-head_whole : (m : Module) (foreign : List ℕ) (i : Input) (certs : Certs) (o : Input) → HasGlobals m → HasStructs m → (is_opaque_text m ≡ true → AreBegun m i.read.shapes) → (text.with_shapes m foreign).says i certs o → are_whole m certs.shapes
+head_whole : (m : Module) (foreign : Outside) (i : Input) (certs : Certs) (o : Input) → HasGlobals m → HasStructs m → (is_opaque_text m ≡ true → AreBegun m i.read.shapes) → (text.with_shapes m foreign).says i certs o → are_whole m certs.shapes
 unfolding text.with_shapes taken_shapes
 head_whole m foreign i certs o globals structs begun h =
     let b = h.3 in
@@ -141,10 +142,10 @@ cert_whole bytes m certs globals structs h =
     let c = b.3 in
     let d = c.3 in
     let same = still_head m (start_of m h.0 bytes) a.0 a.1 a.2 b.0 b.1 b.2 c.0 c.1 c.2 in
-    let names = names_are m c.1 d.0 d.1 d.2 (sym (ap (λ (x : Input). x.read.foreign) same)) in
+    let names = outside_are m c.1 d.0 d.1 d.2 (sym (ap (λ (x : Input). x.read.numbers) same)) (sym (ap (λ (x : Input). x.read.foreign) same)) in
     let start : h.0 ≡ d.1.read.shapes = ap (λ (x : Input). x.read.shapes) same ∙ names.2 in
     by d.0 b.0 d.1 (λ is. version_one m a.1 b.0 b.1 b.2 is) (λ opaque. subst (AreBegun m) start (opaque_begun m h.0 opaque h.1)) d.3
   where
-    by : (foreign : List ℕ) (shaped : Bool) (i : Input) → (shaped ≡ false → is_opaque_text m ≡ false) → (is_opaque_text m ≡ true → AreBegun m i.read.shapes) → (text.certs_by m foreign shaped).says i certs h.2 → are_whole m certs.shapes
+    by : (foreign : Outside) (shaped : Bool) (i : Input) → (shaped ≡ false → is_opaque_text m ≡ false) → (is_opaque_text m ≡ true → AreBegun m i.read.shapes) → (text.certs_by m foreign shaped).says i certs h.2 → are_whole m certs.shapes
     by foreign true i typed begun says = head_whole m foreign i certs h.2 globals structs begun says
     by foreign false i typed begun says = subst (λ (x : Certs). are_whole m x.shapes) says.3.3.0 (typed refl)

@@ -11,7 +11,11 @@ pub mod PrintedLines
 pub mod PrintedPromises
 pub mod PrintedBlocks
 mod ReadForeign
+mod ReadNumbers
+mod ReadOutside
 mod PrintedForeign
+mod PrintedNumbers
+mod PrintedOutside
 pub mod PrintedCerts
 pub mod AnewFits
 mod NoRoots

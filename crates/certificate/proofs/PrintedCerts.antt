@@ -12,6 +12,7 @@ use Rattle.ir_ast.specs.declared.block.Block.{Block}
 use Rattle.ir_ast.specs.declared.function.Function.{Function}
 use Rattle.ir_ast.specs.declared.function.Parameter.{Parameter}
 use Rattle.ir_ast.specs.declared.module.Module.{Module}
+use Rattle.ir_ast.specs.declared.outside.Outside.{Outside}
 use Rattle.ir_tokens.specs.Bytes.{Text}
 use Rattle.name_text.specs.Words.{past_blanks, past_lines, word_at, stops, is_word}
 use Rattle.certificate.specs.Names.{function_of_word}
@@ -28,16 +29,14 @@ use Rattle.certificate.specs.declared.shape_draft.ShapeDraft.{ShapeDraft}
 use Rattle.certs.specs.Families.{family_of_type, family_of_value, is_opaque_text}
 use Rattle.certs.specs.ForeignFit.{foreign_fits}
 use Rattle.certs.specs.Fits.{claims_fit, promise_fits, promised_fits, parameter_fits, parameters_fit, blocks_fit, section_fits, fits, entry_is_empty}
-use Rattle.certificate.specs.ForeignForms.{past_foreign}
-use Rattle.certificate.specs.ForeignPrint.{foreign_text}
 use Rattle.certificate.specs.Named.{IsNamed, IsNamedFunction}
-use Rattle.certificate.specs.Print.{local_text, global_text, claims_text, block_text, blocks_text, promise_text, parameter_text, parameters_text, result_text, mark_text, section_text, sections_text, head_text, shapes_with, cert_text}
+use Rattle.certificate.specs.Print.{local_text, global_text, claims_text, block_text, blocks_text, promise_text, parameter_text, parameters_text, result_text, mark_text, section_text, sections_text, outside_text, head_text, shapes_with, cert_text}
 use Rattle.certificate.specs.Laws.{ArePrintedAgain}
 use Rattle.certs.specs.declared.certs.Certs.{Certs}
 use Rattle.ir_ast.specs.declared.shapes.Shapes.{Shapes}
 use Rattle.name_text.specs.Seams.{word_on, blanks_on}
 use Rattle.certificate.proofs.PrintedLines.{at, ComesAfter, word_is, taken_on, expect_on, line_end_on, as_on}
-use Rattle.certificate.proofs.PrintedForeign.{begins_foreign, foreign_on}
+use Rattle.certificate.proofs.PrintedOutside.{PastOutside, begins_outside, outside_on}
 use Rattle.certificate.proofs.PrintedNames.{function_printed}
 use Rattle.certificate.proofs.PrintedPromises.{parameter_on, result_on}
 use Rattle.certificate.proofs.PrintedBlocks.{EndsLines, block_on}
@@ -377,13 +376,13 @@ module _ (m : Module) (named : IsNamed m) where
   sections_begin (f ∷ fs) [] = refl
   sections_begin (f ∷ fs) (s ∷ ss) = refl
 
-  -- no function outside comes where a section begins, or the text ends
-  pub sections_follow : (i : Input) (fs : List Function) (ss : List Section) → past_foreign (at i (sections_text m fs ss)) ≡ true
-  sections_follow i [] ss = refl
-  sections_follow i (f ∷ fs) [] = refl
+  -- nothing of the code outside comes where a section begins, or the text ends
+  pub sections_follow : (i : Input) (fs : List Function) (ss : List Section) → PastOutside (at i (sections_text m fs ss))
+  sections_follow i [] ss = (refl, refl)
+  sections_follow i (f ∷ fs) [] = (refl, refl)
   sections_follow i (f ∷ fs) (s ∷ ss) =
       let first : word_at (sections_text m (f ∷ fs) (s ∷ ss)) ≡ codes "function" = word_on (codes "function") (drop 8 (sections_text m (f ∷ fs) (s ∷ ss))) refl refl in
-      ap (λ w. not (bytes_eq w (codes "foreign"))) first
+      (ap (λ w. not (bytes_eq w (codes "foreign"))) first, ap (λ w. not (bytes_eq w (codes "number"))) first)
 
   sections_on_from : (fs : List Function) (ss : List Section) (n : ℕ) (i : Input) (done : List (Option Kept)) → ((k : ℕ) → slice_get m.functions (n + k) ≡ slice_get fs k) → length ss ≡ length fs
       → list_all (λ p. section_fits m p.0 p.1) (zip fs ss) ≡ true → length done ≡ n → i.read.sections ≡ done ++ map (λ _. None) fs
@@ -433,13 +432,13 @@ module _ (m : Module) (named : IsNamed m) where
   goes_one false two opaque may a b = absurd cc
 
   -- what is printed of certificates of a typed text is a text of them
-  pub typed_printed : (shapes : ShapeDraft) (ss : List Section) (foreign : List ℕ) → AreStart m shapes → is_opaque_text m ≡ false → fits m ss ≡ true → foreign_fits m foreign ≡ true
-      → IsCert ((codes "cert 1" ++ 10 ∷ foreign_text m foreign) ++ sections_text m m.functions ss) m (record { sections = ss; shapes = None; foreign = foreign })
+  pub typed_printed : (shapes : ShapeDraft) (ss : List Section) (foreign : Outside) → AreStart m shapes → is_opaque_text m ≡ false → fits m ss ≡ true → foreign_fits m foreign ≡ true
+      → IsCert ((codes "cert 1" ++ 10 ∷ outside_text m foreign) ++ sections_text m m.functions ss) m (record { sections = ss; shapes = None; foreign = foreign })
   unfolding text.file text.version text.without_shapes emptied
   typed_printed shapes ss foreign start typed e trusted =
       let sect = sections_text m m.functions ss in
-      let rest = foreign_text m foreign ++ sect in
-      let i : Input = start_of m shapes ((codes "cert 1" ++ 10 ∷ foreign_text m foreign) ++ sect) in
+      let rest = outside_text m foreign ++ sect in
+      let i : Input = start_of m shapes ((codes "cert 1" ++ 10 ∷ outside_text m foreign) ++ sect) in
       let read = sections_printed i ss e refl in
       let o = read.0 in
       let afterwards : ComesAfter (32 ∷ (codes "1" ++ 10 ∷ rest)) (codes "1" ++ 10 ∷ rest) = (refl, refl) in
@@ -449,7 +448,7 @@ module _ (m : Module) (named : IsNamed m) where
       let two : begins (50 ∷ []) j ≡ false = ap (λ x. bytes_eq x (50 ∷ [])) one in
       let number : (text.version m).says j false (at i (10 ∷ rest)) =
       (tt, j, (ap is_number one, refl), (tt, j, (goes, refl), subst (λ (b : Bool). (taken {M = Mistake} b).says j false (at i (10 ∷ rest))) (sym two) (taken_on false i (codes "1") (10 ∷ rest) (10 ∷ rest) refl (refl, refl)))) in
-      let names = foreign_on m named i foreign sect trusted refl (sections_begin m.functions ss) (sections_follow i m.functions ss) in (
+      let names = outside_on m named i foreign sect trusted refl refl (sections_begin m.functions ss) (sections_follow i m.functions ss) in (
         shapes,
         start,
         recorded emptied (at o []),
@@ -464,7 +463,7 @@ module _ (m : Module) (named : IsNamed m) where
             (
               tt,
               at i rest,
-              line_end_on i rest rest (begins_foreign m foreign sect (sections_begin m.functions ss)),
+              line_end_on i rest rest (begins_outside m foreign sect (sections_begin m.functions ss)),
               (foreign, at i sect, names, (tt, at o [], read.1, (ss, recorded emptied (at o []), read.2, (refl, refl)))),
             ),
           ),
@@ -474,7 +473,7 @@ module _ (m : Module) (named : IsNamed m) where
 pub cert_printed : ArePrintedAgain
 cert_printed m certs begun start named typed own none fit trusted =
     let rest = sections_text m m.functions certs.sections in
-    let head : Text = codes "cert 1" ++ 10 ∷ foreign_text m certs.foreign in
+    let head : Text = codes "cert 1" ++ 10 ∷ outside_text m certs.foreign in
     let text : head ++ rest ≡ cert_text certs m = ap (λ x. head_text m certs.foreign x ++ rest) (sym (ap (λ x. shapes_with x m.shapes) none ∙ own)) in
     let same : ◌≡◌ {A = Certs} (record { sections = certs.sections; shapes = None; foreign = certs.foreign }) certs = ap (λ (x : Option Shapes). record { sections = certs.sections; shapes = x; foreign = certs.foreign }) (sym none) in
     subst (λ x. IsCert x m certs) text (subst (λ x. IsCert (head ++ rest) m x) same (typed_printed m named begun certs.sections certs.foreign start typed fit trusted))

@@ -1,19 +1,18 @@
 -- Printed functions outside are read as they were printed.
-use Rattle.std.proofs.Common.{◌≡◌, ℕ, Bool, true, false, not, ◌&&◌, ◌||◌, [], ◌∷◌, ◌++◌, codes, List, refl, ap, sym, subst, ◌∙◌, append_assoc}
+use Rattle.std.proofs.Common.{◌≡◌, ℕ, Bool, true, false, not, ◌&&◌, [], ◌∷◌, ◌++◌, codes, List, refl, ap, sym, subst, ◌∙◌, append_assoc}
 use Rattle.std.specs.Prelude.{◌==◌}
 use Rattle.std.specs.List.{list_all, list_any}
 use Rattle.std.specs.Str.{bytes_eq}
 use Rattle.std.proofs.lemmas.List.{append-nil}
-use Rattle.std.proofs.lemmas.Slice.Eq.{bytes_eq-Decides}
-use Rattle.lemmas.specs.Bools.{and_parts, not_false}
+use Rattle.lemmas.specs.Bools.{and_parts}
 use Rattle.grammar.specs.Many.{Listed}
 use Rattle.ir_ast.specs.declared.module.Module.{Module}
 use Rattle.ir_tokens.specs.Bytes.{Text}
-use Rattle.name_text.specs.Reader.{recorded, word}
+use Rattle.name_text.specs.Reader.{recorded}
 use Rattle.name_text.specs.Seams.{blanks_on}
 use Rattle.name_text.specs.Words.{past_lines}
 use Rattle.types.specs.RuntimeCall.{is_outside}
-use Rattle.certs.specs.ForeignFit.{are_once, foreign_fits}
+use Rattle.certs.specs.ForeignFit.{are_once, functions_fit}
 use Rattle.certificate.specs.ForeignForms.{outside_named, new_outside, foreign_line, past_foreign, foreign_lines, taken_foreign, foreign_by, foreign_names}
 use Rattle.certificate.specs.ForeignPrint.{foreign_line_text, foreign_text}
 use Rattle.certificate.specs.Forms.{free_by}
@@ -21,34 +20,9 @@ use Rattle.certificate.specs.Input.{Progress, Input, with_foreign, without_forei
 use Rattle.certificate.specs.NameTexts.{global_text}
 use Rattle.certificate.specs.Named.{IsNamed}
 use Rattle.certificate.specs.Names.{outside_of_word}
-use Rattle.certificate.specs.ShapeForms.{past_shapes, shape_line, shape_lines}
 use Rattle.certificate.proofs.PrintedLines.{at, ComesAfter, word_is, taken_on, expect_on, line_end_on}
 use Rattle.certificate.proofs.PrintedNames.{outside_printed}
 use Rattle.certificate.proofs.ReadForeign.{once_before}
-
--- ---- what follows the lines
-
--- a shape is no function outside
-shape_word : (w : Text) → not (bytes_eq w (codes "layout") || bytes_eq w (codes "global") || bytes_eq w (codes "root")) ≡ false → not (bytes_eq w (codes "foreign")) ≡ true
-shape_word w e = by (bytes_eq w (codes "layout")) (bytes_eq w (codes "global")) (bytes_eq w (codes "root")) refl refl refl (not_false (bytes_eq w (codes "layout") || bytes_eq w (codes "global") || bytes_eq w (codes "root")) e)
-  where
-    is : (other : Text) → bytes_eq w other ≡ true → not (bytes_eq other (codes "foreign")) ≡ true → not (bytes_eq w (codes "foreign")) ≡ true
-    is other same apart = ap (λ (x : Text). not (bytes_eq x (codes "foreign"))) ((bytes_eq-Decides w other).0 same) ∙ apart
-
-    by : (layout global root : Bool) → bytes_eq w (codes "layout") ≡ layout → bytes_eq w (codes "global") ≡ global → bytes_eq w (codes "root") ≡ root → (layout || global || root) ≡ true → not (bytes_eq w (codes "foreign")) ≡ true
-    by true global root a b c some = is (codes "layout") a refl
-    by false true root a b c some = is (codes "global") b refl
-    by false false true a b c some = is (codes "root") c refl
-    by false false false a b c some = absurd cc
-
--- where shapes come, and then no function outside, none comes before them
-pub no_foreign : (m : Module) (i : Input) (u : Unit {0}) (o : Input) → (shape_lines m).says i u o → past_foreign o ≡ true → past_foreign i ≡ true
-unfolding shape_lines
-no_foreign m i u o h stop = by h.0 h.2
-  where
-    by : (xs : List (Unit {0})) → Listed past_shapes (shape_line m).says i xs h.1 → past_foreign i ≡ true
-    by [] listed = ap past_foreign (listed.1 ∙ h.3.1) ∙ stop
-    by (x ∷ xs) listed = shape_word (word i) listed.0
 
 pub begins_foreign : (m : Module) (symbols : List ℕ) (t : Text) → past_lines false t ≡ t → past_lines false (foreign_text m symbols ++ t) ≡ foreign_text m symbols ++ t
 begins_foreign m [] t e = e
@@ -110,7 +84,7 @@ module _ (m : Module) (named : IsNamed m) where
       (count, subst (λ x. Listed past_foreign (foreign_line m).says (at i x) count (at (recorded (more_foreign (s ∷ symbols)) i) t)) (sym whole) (subst (λ x. Listed past_foreign (foreign_line m).says (at i (foreign_line_text m s ++ rest)) count x) out said))
 
   -- functions outside that fit the module are read where none is read so far
-  pub foreign_on : (i : Input) (symbols : List ℕ) (t : Text) → foreign_fits m symbols ≡ true → i.read.foreign ≡ [] → past_lines false t ≡ t → past_foreign (at i t) ≡ true → (foreign_names m).says (at i (foreign_text m symbols ++ t)) symbols (at i t)
+  pub foreign_on : (i : Input) (symbols : List ℕ) (t : Text) → functions_fit m symbols ≡ true → i.read.foreign ≡ [] → past_lines false t ≡ t → past_foreign (at i t) ≡ true → (foreign_names m).says (at i (foreign_text m symbols ++ t)) symbols (at i t)
   unfolding foreign_names foreign_lines taken_foreign without_foreign
   foreign_on i symbols t fit none e stop = by m.wide refl symbols fit
     where
@@ -122,7 +96,7 @@ module _ (m : Module) (named : IsNamed m) where
           let back : recorded without_foreign o ≡ at i t = ap (λ (x : List ℕ). at (recorded (λ (p : Progress). record p { foreign = x }) i) t) (sym none) in
           (tt, o, (lines.0, o, lines.1, (refl, refl)), (names, back))
 
-      by : (wide : Bool) → m.wide ≡ wide → (symbols : List ℕ) → foreign_fits m symbols ≡ true → (foreign_by m wide).says (at i (foreign_text m symbols ++ t)) symbols (at i t)
+      by : (wide : Bool) → m.wide ≡ wide → (symbols : List ℕ) → functions_fit m symbols ≡ true → (foreign_by m wide).says (at i (foreign_text m symbols ++ t)) symbols (at i t)
       by false is [] fit = (refl, refl)
       by false is (s ∷ symbols) fit = (let no : true ≡ false = sym (and_parts m.wide (list_all (is_outside m) (s ∷ symbols) && are_once (s ∷ symbols)) fit).0 ∙ is in absurd cc)
       by true is [] fit = wide_on [] refl refl

@@ -6,6 +6,7 @@ use Rattle.std.specs.Str.{bytes_eq}
 use Rattle.lemmas.specs.Bools.{and_first, and_second, or_second, and_true}
 use Rattle.ir_ast.specs.declared.function.Function.{Function}
 use Rattle.ir_ast.specs.declared.module.Module.{Module}
+use Rattle.ir_ast.specs.declared.outside.Outside.{Outside}
 use Rattle.ir_ast.specs.declared.shapes.Shapes.{Shapes}
 use Rattle.ir_ast.specs.PointerKinds.{has_typed}
 use Rattle.ir_tokens.specs.Bytes.{Text}
@@ -22,12 +23,10 @@ use Rattle.certs.specs.ShapesFit.{row_fits, root_row_fits, global_fits, roots_fi
 use Rattle.certs.specs.declared.certs.Certs.{Certs}
 use Rattle.certs.specs.declared.section.Section.{Section}
 use Rattle.certificate.specs.Alike.{are_alike, are_whole, HasWordShapes, HasRootShapes, IsCertAlike}
-use Rattle.certificate.specs.ForeignForms.{past_foreign}
-use Rattle.certificate.specs.ForeignPrint.{foreign_text}
 use Rattle.certificate.specs.Input.{Input, start_of, emptied, unshaped}
 use Rattle.certificate.specs.Laws.{ArePrintedAlike}
 use Rattle.certificate.specs.Named.{IsNamed, HasGlobals, HasStructs, HasRootValues}
-use Rattle.certificate.specs.Print.{sections_text, head_text, shapes_with, cert_text}
+use Rattle.certificate.specs.Print.{sections_text, outside_text, head_text, shapes_with, cert_text}
 use Rattle.certificate.specs.ShapeDrafts.{shapes_begun}
 use Rattle.certificate.specs.ShapeForms.{past_shapes, taken_shapes, none_missing, whole_by}
 use Rattle.certificate.specs.ShapesPrint.{shapes_text}
@@ -38,7 +37,7 @@ use Rattle.certificate.specs.declared.mistake.Mistake.{Mistake}
 use Rattle.certificate.specs.declared.shape_draft.ShapeDraft.{ShapeDraft}
 use Rattle.certificate.proofs.CertShapes.{opaque_begun}
 use Rattle.certificate.proofs.PrintedCerts.{cert_printed, sections_begin, sections_follow, sections_printed}
-use Rattle.certificate.proofs.PrintedForeign.{begins_foreign, foreign_on, no_foreign}
+use Rattle.certificate.proofs.PrintedOutside.{PastOutside, begins_outside, none_outside_before, outside_on}
 use Rattle.certificate.proofs.PrintedLines.{at, ComesAfter, word_is, taken_on, expect_on, line_end_on}
 use Rattle.certificate.proofs.PrintedShapeRoots.{AreRooted}
 use Rattle.certificate.proofs.PrintedShapes.{ShapesOn, begins_shapes, shapes_on}
@@ -53,14 +52,14 @@ sections_stop m i (f ∷ fs) (s ∷ ss) =
     ap (λ w. not (bytes_eq w (codes "layout") || bytes_eq w (codes "global") || bytes_eq w (codes "root"))) first
 
 module _ (m : Module) (named : IsNamed m) (globals : HasGlobals m) (structs : HasStructs m) (values : HasRootValues m) where
-  opaque_printed : (begun : ShapeDraft) (ss : List Section) (shapes : Shapes) (foreign : List ℕ) → AreStart m begun → is_opaque_text m ≡ true → fits m ss ≡ true → foreign_fits m foreign ≡ true
+  opaque_printed : (begun : ShapeDraft) (ss : List Section) (shapes : Shapes) (foreign : Outside) → AreStart m begun → is_opaque_text m ≡ true → fits m ss ≡ true → foreign_fits m foreign ≡ true
       → all_shapes_fit m shapes ≡ true → HasWordShapes m shapes → HasRootShapes m shapes
-      → IsCertAlike (codes "cert 2" ++ 10 ∷ (foreign_text m foreign ++ (shapes_text m shapes ++ sections_text m m.functions ss))) m (record { sections = ss; shapes = Some shapes; foreign = foreign })
+      → IsCertAlike (codes "cert 2" ++ 10 ∷ (outside_text m foreign ++ (shapes_text m shapes ++ sections_text m m.functions ss))) m (record { sections = ss; shapes = Some shapes; foreign = foreign })
   unfolding text.file text.version text.with_shapes taken_shapes none_missing unshaped emptied
   opaque_printed begun ss shapes foreign start opaque fit trusted all words roots =
       let sect = sections_text m m.functions ss in
       let shaped = shapes_text m shapes ++ sect in
-      let rest = foreign_text m foreign ++ shaped in
+      let rest = outside_text m foreign ++ shaped in
       let i : Input = start_of m begun (codes "cert 2" ++ 10 ∷ rest) in
       let a = list_all (row_fits m) shapes.words in
       let b = row_fits m shapes.globals in
@@ -91,8 +90,8 @@ module _ (m : Module) (named : IsNamed m) (globals : HasGlobals m) (structs : Ha
       let again : Certs = record { sections = ss; shapes = shapes_of m draft.shapes; foreign = foreign } in
       let none : (none_missing m draft).says (at o []) tt (at o []) = subst (λ x. (whole_by x).says (at o []) tt (at o [])) (sym s.whole) (refl, refl) in
       let shapes_begin : past_lines false shaped ≡ shaped = begins_shapes m shapes sect (sections_begin m named m.functions ss) in
-      let shapes_follow : past_foreign (at i shaped) ≡ true = no_foreign m (at i shaped) tt (at s.out sect) s.read (sections_follow m named s.out m.functions ss) in
-      let names = foreign_on m named i foreign shaped trusted refl shapes_begin shapes_follow in
+      let shapes_follow : PastOutside (at i shaped) = none_outside_before m (at i shaped) tt (at s.out sect) s.read (sections_follow m named s.out m.functions ss) in
+      let names = outside_on m named i foreign shaped trusted refl refl shapes_begin shapes_follow in
       let from_there : (text.with_shapes m foreign).says (at i shaped) again out = (tt, at s.out sect, s.read, (draft, at p sect, (refl, refl), (tt, at o [], read.1, (tt, at o [], none, (ss, out, read.2, (refl, refl)))))) in (
         again,
         (
@@ -103,7 +102,7 @@ module _ (m : Module) (named : IsNamed m) (globals : HasGlobals m) (structs : Ha
             tt,
             j,
             expect_on i (codes "cert") (32 ∷ (codes "2" ++ 10 ∷ rest)) (codes "2" ++ 10 ∷ rest) refl afterwards,
-            (true, at i (10 ∷ rest), number, (tt, at i rest, line_end_on i rest rest (begins_foreign m foreign shaped shapes_begin), (foreign, at i shaped, names, from_there))),
+            (true, at i (10 ∷ rest), number, (tt, at i rest, line_end_on i rest rest (begins_outside m foreign shaped shapes_begin), (foreign, at i shaped, names, from_there))),
           ),
         ),
         refl,
@@ -119,7 +118,7 @@ printed_alike m certs begun start named globals structs values own fit trusted w
     sect = sections_text m m.functions certs.sections
 
     names : Text
-    names = foreign_text m certs.foreign
+    names = outside_text m certs.foreign
 
     by : (shapes : Option Shapes) → certs.shapes ≡ shapes → are_whole m shapes → IsCertAlike (cert_text certs m) m certs
     by None none typed = (certs, cert_printed m certs begun start named typed own none fit trusted, refl, subst (λ (x : Option Shapes). are_alike m x x) (sym none) tt, refl)

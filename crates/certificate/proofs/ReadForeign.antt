@@ -13,7 +13,7 @@ use Rattle.name_text.specs.Naming.{name_in}
 use Rattle.name_text.specs.Reader.{word}
 use Rattle.name_text.specs.declared.naming.Sigil.TheVariants as sigil
 use Rattle.types.specs.RuntimeCall.{is_outside}
-use Rattle.certs.specs.ForeignFit.{are_once, foreign_fits}
+use Rattle.certs.specs.ForeignFit.{are_once, functions_fit}
 use Rattle.certificate.specs.ForeignForms.{outside_named, new_outside, foreign_line, past_foreign, foreign_lines, taken_foreign, foreign_by, foreign_names}
 use Rattle.certificate.specs.Forms.{free_by}
 use Rattle.certificate.specs.Input.{Progress, Input, with_foreign, without_foreign}
@@ -26,7 +26,7 @@ use Rattle.certificate.proofs.ReadWords.{still, still_taken, taken_is, still_exp
 -- ---- names that stand once
 
 -- a name that is another one
-other_name : (s t : ℕ) → s == t ≡ false → t == s ≡ false
+pub other_name : (s t : ℕ) → s == t ≡ false → t == s ≡ false
 other_name s t e = never_true (t == s) (λ same. (let no : true ≡ false = sym (eq-eqb s t (sym (eqb-true t s same))) ∙ e in cc))
 
 -- a name that is neither the last nor one of those before it is none of them
@@ -133,17 +133,17 @@ lines_are m i (u ∷ xs) o h fit =
     let more = lines_are m h.1 xs o h.3 (subst (Fit m) one.2 (step_fits m i.read one.0 one.1 fit)) in
     (more.0, (rest.0 ∙ more.1.0, rest.1 ∙ more.1.1))
 
-fits_wide : (m : Module) (symbols : List ℕ) → m.wide ≡ true → list_all (is_outside m) symbols ≡ true → are_once symbols ≡ true → foreign_fits m symbols ≡ true
+fits_wide : (m : Module) (symbols : List ℕ) → m.wide ≡ true → list_all (is_outside m) symbols ≡ true → are_once symbols ≡ true → functions_fit m symbols ≡ true
 fits_wide m [] wide all once = refl
 fits_wide m (s ∷ symbols) wide all once = and_true m.wide (list_all (is_outside m) (s ∷ symbols) && are_once (s ∷ symbols)) wide (and_true (list_all (is_outside m) (s ∷ symbols)) (are_once (s ∷ symbols)) all once)
 
 -- what is read, where nothing was read before, fits the module, and all else is as it was
-pub names_are : (m : Module) (i : Input) (symbols : List ℕ) (o : Input) → (foreign_names m).says i symbols o → i.read.foreign ≡ [] → (foreign_fits m symbols ≡ true) × (i.read.sections ≡ o.read.sections) × (i.read.shapes ≡ o.read.shapes)
+pub names_are : (m : Module) (i : Input) (symbols : List ℕ) (o : Input) → (foreign_names m).says i symbols o → i.read.foreign ≡ [] → (functions_fit m symbols ≡ true) × (i.read.sections ≡ o.read.sections) × (i.read.shapes ≡ o.read.shapes)
 unfolding foreign_names foreign_lines taken_foreign without_foreign
 names_are m i symbols o h none = by m.wide refl h
   where
-    by : (wide : Bool) → m.wide ≡ wide → (foreign_by m wide).says i symbols o → (foreign_fits m symbols ≡ true) × (i.read.sections ≡ o.read.sections) × (i.read.shapes ≡ o.read.shapes)
-    by false is h = (ap (foreign_fits m) (sym h.0), ap (λ (x : Input). x.read.sections) h.1, ap (λ (x : Input). x.read.shapes) h.1)
+    by : (wide : Bool) → m.wide ≡ wide → (foreign_by m wide).says i symbols o → (functions_fit m symbols ≡ true) × (i.read.sections ≡ o.read.sections) × (i.read.shapes ≡ o.read.shapes)
+    by false is h = (ap (functions_fit m) (sym h.0), ap (λ (x : Input). x.read.sections) h.1, ap (λ (x : Input). x.read.shapes) h.1)
     by true is h =
         let start : Fit m i.read = (ap (list_all (is_outside m)) none, ap are_once none) in
         let lines = lines_are m i h.2.0 h.2.1 h.2.2 start in

@@ -25,7 +25,7 @@ use Rattle.certificate.specs.declared.progress.Kept.{Kept}
 
 -- the state before a text: the one function has no section
 abbrev pub start_anew : Bytes → Input
-start_anew bytes = record { rest = past_lines false bytes; read = record { sections = None ∷ []; draft = no_draft; shapes = no_shapes; foreign = [] } }
+start_anew bytes = record { rest = past_lines false bytes; read = record { sections = None ∷ []; draft = no_draft; shapes = no_shapes; foreign = []; numbers = [] } }
 
 -- whether a word names this function
 abbrev pub is_function : (function : ℕ) → Naming → Bool

@@ -2,6 +2,7 @@
 use Rattle.std.specs.Prelude.{ℕ, false, List, [], ◌∷◌, ◌++◌, Option, Some, None, map, slice_set}
 use Rattle.ir_ast.specs.declared.function.Function.{Function}
 use Rattle.ir_ast.specs.declared.module.Module.{Module}
+use Rattle.ir_ast.specs.declared.outside.LayoutNumber.{LayoutNumber}
 use Rattle.ir_tokens.specs.Bytes.{Text}
 use Rattle.name_text.specs.Words.{past_lines}
 use Rattle.name_text.specs.Reader as reader
@@ -22,6 +23,7 @@ pub record Progress : Type 0 where
   pub draft : SectionDraft  -- of the section that is read
   pub shapes : ShapeDraft
   pub foreign : List ℕ  -- the functions outside that are trusted
+  pub numbers : List LayoutNumber  -- the numbers of layouts
 
 -- a certificate's text, and what is read of it so far
 abbrev pub Input : Type 0
@@ -33,7 +35,7 @@ Form A = reader.Form Progress Mistake A
 
 -- nothing is read so far: no function has a section
 abbrev pub nothing_read : Module → ShapeDraft → Progress
-nothing_read m shapes = record { sections = map (λ _. None) m.functions; draft = no_draft; shapes = shapes; foreign = [] }
+nothing_read m shapes = record { sections = map (λ _. None) m.functions; draft = no_draft; shapes = shapes; foreign = []; numbers = [] }
 
 -- the state before a text
 abbrev pub start_of : Module → ShapeDraft → Text → Input
@@ -90,3 +92,11 @@ with_foreign symbol p = record p { foreign = p.foreign ++ symbol ∷ [] }
 -- with no function outside left
 unfoldable pub without_foreign : Progress → Progress
 without_foreign p = record p { foreign = [] }
+
+-- with the number of one more layout
+unfoldable pub with_number : LayoutNumber → Progress → Progress
+with_number line p = record p { numbers = p.numbers ++ line ∷ [] }
+
+-- with no number of a layout left
+unfoldable pub without_numbers : Progress → Progress
+without_numbers p = record p { numbers = [] }

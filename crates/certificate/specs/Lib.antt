@@ -17,11 +17,13 @@ pub mod Laws
 pub mod Anew
 pub mod Replaced
 pub mod ShapeDrafts
+pub mod ForeignForms
+pub mod ForeignPrint
+pub mod NumberForms
+pub mod NumbersPrint
 pub mod ShapeForms
 pub mod ShapeText
 pub mod ShapesPrint
-pub mod ForeignForms
-pub mod ForeignPrint
 pub mod Starts
 pub mod TypedShapes
 pub mod Migrated

@@ -8,10 +8,12 @@ use Rattle.ir_ast.specs.declared.block.Block.{Block}
 use Rattle.ir_ast.specs.declared.function.Function.{Function}
 use Rattle.ir_ast.specs.declared.function.Parameter.{Parameter}
 use Rattle.ir_ast.specs.declared.module.Module.{Module}
+use Rattle.ir_ast.specs.declared.outside.Outside.{Outside}
 use Rattle.ir_ast.specs.declared.shapes.Shapes.{Shapes}
 use Rattle.ir_tokens.specs.Bytes.{Text}
 pub use Rattle.certificate.specs.NameTexts.{name_text, key_text, local_text, global_text, layout_text}
 use Rattle.certificate.specs.ForeignPrint.{foreign_text}
+use Rattle.certificate.specs.NumbersPrint.{numbers_text}
 use Rattle.certificate.specs.ShapesPrint.{shapes_text}
 use Rattle.pools.specs.WordSets.{has_word}
 use Rattle.certs.specs.declared.certs.Certs.{Certs}
@@ -161,10 +163,14 @@ abbrev pub shapes_with : Option Shapes → (own : Option Shapes) → Option Shap
 shapes_with None own = own
 shapes_with (Some shapes) own = Some shapes
 
--- the first line, the functions outside and the shapes
-abbrev pub head_text : Module → (foreign : List ℕ) → Option Shapes → Text
-head_text m foreign None = codes "cert 1" ++ 10 ∷ foreign_text m foreign
-head_text m foreign (Some shapes) = codes "cert 2" ++ 10 ∷ (foreign_text m foreign ++ shapes_text m shapes)
+-- what is said of the code outside: the numbers of layouts, and the functions that are trusted
+abbrev pub outside_text : Module → Outside → Text
+outside_text m outside = numbers_text m outside.numbers ++ foreign_text m outside.functions
+
+-- the first line, what is said of the code outside, and the shapes
+abbrev pub head_text : Module → (foreign : Outside) → Option Shapes → Text
+head_text m foreign None = codes "cert 1" ++ 10 ∷ outside_text m foreign
+head_text m foreign (Some shapes) = codes "cert 2" ++ 10 ∷ (outside_text m foreign ++ shapes_text m shapes)
 
 -- the text of certificates, by the numbers of their functions
 abbrev pub cert_text : Certs → Module → Text

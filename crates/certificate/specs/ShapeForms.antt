@@ -15,7 +15,9 @@ use Rattle.certificate.specs.Names.{function_of_word, global_of_word, value_of_w
 use Rattle.certs.specs.declared.family.Family.TheVariants.{Opaque}
 use Rattle.certificate.specs.Forms.{unknown, layout_name}
 use Rattle.certificate.specs.Input.{Progress, Input, Form, shaping, unshaped}
+use Rattle.certificate.specs.NumberForms.{layout_numbers}
 use Rattle.certificate.specs.ShapeDrafts.{is_pointer, name_of, has_word_shape, is_opaque_global, has_global_shape, is_root_slot, has_root_shape, with_word_shape, with_global_shape, with_root_shape, shapes_gap}
+use Rattle.certificate.specs.declared.given_shapes.GivenShapes.{GivenShapes}
 use Rattle.certificate.specs.declared.naming.Naming.{Naming}
 use Rattle.certificate.specs.declared.naming.Naming.TheVariants.{NoName, Unknown, Named}
 use Rattle.certificate.specs.declared.mistake.Mistake.{Mistake}
@@ -219,10 +221,12 @@ whole m = do
   none_missing m draft
   pure draft.shapes
 
--- a text of shapes
-unfoldable pub text : Module → Form Shapes
+-- a text of shapes, with numbers of layouts before them
+unfoldable pub text : Module → Form GivenShapes
 text m = do
   expect (codes "shapes")
   version
   line_end
-  whole m
+  numbers ← layout_numbers m
+  shapes ← whole m
+  pure (record { shapes = shapes; numbers = numbers })

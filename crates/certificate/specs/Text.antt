@@ -2,6 +2,7 @@
 use Rattle.std.specs.Prelude.{◌≡◌, ℕ, ◌+◌, Bool, true, false, not, ◌||◌, if◌then◌else◌, List, [], ◌∷◌, Option, Some, None, slice_get, codes}
 use Rattle.ir_ast.specs.declared.function.Function.{Function}
 use Rattle.ir_ast.specs.declared.module.Module.{Module}
+use Rattle.ir_ast.specs.declared.outside.Outside.{Outside}
 use Rattle.ir_ast.specs.declared.shapes.Shapes.{Shapes}
 use Rattle.grammar.specs.Grammar.{pure, ◌>>=◌, ◌>>◌, step, checked, look, refuse}
 use Rattle.grammar.specs.Many.{many}
@@ -18,6 +19,7 @@ use Rattle.certificate.specs.Forms.{unknown, marked, new_function, new_parameter
 use Rattle.certificate.specs.Lines.{promise, line}
 use Rattle.certificate.specs.Ends.{line_takes}
 use Rattle.certificate.specs.ForeignForms.{foreign_names}
+use Rattle.certificate.specs.NumberForms.{layout_numbers}
 use Rattle.certificate.specs.ShapeForms.{shape_lines, taken_shapes, none_missing}
 use Rattle.certificate.specs.Starts.{goes_with, AreStart}
 use Rattle.certificate.specs.declared.shape_draft.ShapeDraft.{ShapeDraft}
@@ -205,15 +207,22 @@ finished = look (λ i. first_gap 0 i.read.sections) finished_by
 abbrev pub shapes_of : Module → Shapes → Option Shapes
 shapes_of m shapes = if is_opaque_text m then Some shapes else None
 
--- certificates after the functions outside, without shapes
-unfoldable pub without_shapes : Module → (foreign : List ℕ) → Form Certs
+-- what is said of the code outside: numbers of layouts, and functions that are trusted
+unfoldable pub outside_lines : Module → Form Outside
+outside_lines m = do
+  numbers ← layout_numbers m
+  functions ← foreign_names m
+  pure (record { functions = functions; numbers = numbers })
+
+-- certificates after what is said of the code outside, without shapes
+unfoldable pub without_shapes : Module → (foreign : Outside) → Form Certs
 without_shapes m foreign = do
   sections m
   own ← finished
   pure (record { sections = own; shapes = None; foreign = foreign })
 
--- certificates after the functions outside, with shapes, of which none is missing
-unfoldable pub with_shapes : Module → (foreign : List ℕ) → Form Certs
+-- certificates after what is said of the code outside, with shapes, of which none is missing
+unfoldable pub with_shapes : Module → (foreign : Outside) → Form Certs
 with_shapes m foreign = do
   shape_lines m
   draft ← taken_shapes
@@ -223,7 +232,7 @@ with_shapes m foreign = do
   pure (record { sections = own; shapes = shapes_of m draft.shapes; foreign = foreign })
 
 -- with shapes or without them
-abbrev pub certs_by : Module → (foreign : List ℕ) → (shaped : Bool) → Form Certs
+abbrev pub certs_by : Module → (foreign : Outside) → (shaped : Bool) → Form Certs
 certs_by m foreign true = with_shapes m foreign
 certs_by m foreign false = without_shapes m foreign
 
@@ -233,7 +242,7 @@ file m = do
   expect (codes "cert")
   shaped ← version m
   line_end
-  foreign ← foreign_names m
+  foreign ← outside_lines m
   certs_by m foreign shaped
 
 -- the text is one of these certificates

@@ -12,7 +12,7 @@ use crate::replaced::{copied_blocks, copied_certs, copied_section};
 use crate::shape_draft::shapes_gap;
 use crate::typed_shapes::typed_draft;
 use certs::{Certs, Promise, Section, is_opaque_text};
-use copies::{copy_symbols, opaque};
+use copies::{copy_outside, opaque};
 use ir_ast::{Function, Module, Parameter, Shapes, TypeId};
 use items::Items;
 use layout::field_rows;
@@ -127,7 +127,7 @@ fn with_shapes(
     ensures { IfOk result (λ migrated. migrated ≡ record { sections = spec.sections_from «module».now 0 certs.now.sections; shapes = Some shapes; foreign = certs.now.foreign }) }
 {
     let sections = migrated_sections(alloc, module, certs.sections.as_slice())?;
-    let foreign = copy_symbols(alloc, certs.foreign.as_slice())?;
+    let foreign = copy_outside(alloc, &certs.foreign)?;
     Ok(Certs {
         sections,
         shapes: Some(shapes),

@@ -5,9 +5,10 @@ ghost use Rattle.certificate.specs.Print as spec;
 
 use crate::print::{put_below, put_claim, put_if};
 use crate::print_foreign::put_foreign;
+use crate::print_numbers::put_numbers;
 use crate::print_shapes::put_shapes;
 use certs::{Certs, Claim, Mark, Promise, Section};
-use ir_ast::{Block, Function, Module, Parameter, Shapes, SymbolId};
+use ir_ast::{Block, Function, Module, Outside, Parameter, Shapes};
 use items::Items;
 use name_text::{Blank, put_global, put_layout, put_local};
 use pools::LayoutId;
@@ -234,12 +235,25 @@ fn shapes_with<'a>(certs: &'a Certs, module: &'a Module) -> Option<&'a Shapes>
     }
 }
 
-/// The first line, the functions outside and the shapes.
+/// What is said of the code outside: the numbers of layouts, and the functions that are trusted.
+fn put_outside(
+    alloc: Global,
+    out: &mut Vec<u8>,
+    module: &Module,
+    outside: &Outside,
+) -> Result<(), AllocError>
+    ensures { OnOk result (out.new.items ≡ out.old.items ++ spec.outside_text «module».now outside.now) }
+{
+    put_numbers(alloc, out, module, outside.numbers.as_slice())?;
+    put_foreign(out, module, outside.functions.as_slice())
+}
+
+/// The first line, what is said of the code outside, and the shapes.
 fn put_head(
     alloc: Global,
     out: &mut Vec<u8>,
     module: &Module,
-    foreign: &[SymbolId],
+    foreign: &Outside,
     shapes: Option<&Shapes>,
 ) -> Result<(), AllocError>
     ensures { OnOk result (out.new.items ≡ out.old.items ++ spec.head_text «module».now foreign.now (option_copied shapes.entry)) }
@@ -247,24 +261,24 @@ fn put_head(
     match shapes {
         None => {
             out.extend_from_slice(b"cert 1\n")?;
-            put_foreign(out, module, foreign)
+            put_outside(alloc, out, module, foreign)
         }
         Some(shapes) => {
             out.extend_from_slice(b"cert 2\n")?;
-            put_foreign(out, module, foreign)?;
+            put_outside(alloc, out, module, foreign)?;
             put_shapes(alloc, out, module, shapes)
         }
     }
 }
 
-/// The text of certificates: the functions outside that they trust, as they were given; shapes, where they or the module have some, and
+/// The text of certificates: numbers of layouts, and the functions outside that they trust, as they were given; shapes, where they or the module have some, and
 /// sections, each in the module's order, parameters and blocks in their function's, claims as they were given.
 pub fn print_cert(alloc: Global, certs: &Certs, module: &Module) -> Result<Vec<u8>, AllocError>
     ensures { IfOk result (λ text. text.items ≡ spec.cert_text certs.now «module».now) }
 {
     let mut out = Vec::new(alloc);
     let shapes = shapes_with(certs, module);
-    put_head(alloc, &mut out, module, certs.foreign.as_slice(), shapes)?;
+    put_head(alloc, &mut out, module, &certs.foreign, shapes)?;
     let functions = module.functions.as_slice();
     put_sections(
         alloc,

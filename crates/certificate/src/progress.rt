@@ -4,12 +4,13 @@ ghost use Rattle.std.specs.List.{list_any};
 ghost use Rattle.certificate.specs.Input as spec;
 ghost use Rattle.certificate.specs.Drafts.{no_draft, first_missing};
 ghost use Rattle.certificate.specs.ShapeDrafts.{with_word_shape, with_global_shape, with_root_shape};
+ghost use Rattle.certs.specs.NumbersFit.{has_layout, has_number};
 ghost use Rattle.certs.specs.declared.section.Claim.TheVariants as a_line;
 
 use crate::draft::{RequiredValue, SectionDraft};
 use crate::shape_draft::ShapeDraft;
-use certs::{Claim, Fact, Mark, Promise, Section};
-use ir_ast::{BlockId, FuncId, Function, Module, SymbolId, ValueId};
+use certs::{Claim, Fact, Mark, Promise, Section, has_layout, has_number};
+use ir_ast::{BlockId, FuncId, Function, LayoutNumber, Module, SymbolId, ValueId};
 use items::Items;
 use pools::LayoutId;
 use std::alloc::{AllocError, Global};
@@ -24,13 +25,14 @@ pub struct Kept {
     pub missing: Option<usize>,
 }
 
-/// The sections that are read, the draft of the next one, the shapes, and the functions outside that are trusted.
+/// The sections that are read, the draft of the next one, the shapes, the functions outside that are trusted, and the numbers of layouts.
 #[derive(Drop)]
 pub struct Progress {
     sections: Vec<Option<Kept>>,
     draft: SectionDraft,
     shapes: ShapeDraft,
     foreign: Items<SymbolId>,
+    numbers: Items<LayoutNumber>,
 }
 
 impl Model for Progress {
@@ -46,13 +48,14 @@ impl Model for Progress {
 impl Progress {
     /// No section is begun.
     pub fn new(alloc: Global, sections: Vec<Option<Kept>>, shapes: ShapeDraft) -> Progress
-        ensures { result ≡ record { sections = sections.items; draft = no_draft; shapes = shapes; foreign = [] } }
+        ensures { result ≡ record { sections = sections.items; draft = no_draft; shapes = shapes; foreign = []; numbers = [] } }
     {
         Progress {
             sections,
             draft: SectionDraft::none(alloc),
             shapes,
             foreign: Items::new(alloc),
+            numbers: Items::new(alloc),
         }
     }
 
@@ -149,6 +152,38 @@ impl Progress {
         ensures rest { self.new ≡ spec.without_foreign self.old }
     {
         mem::replace(&mut self.foreign, Items::new(alloc))
+    }
+
+    /// Whether this layout has a number so far.
+    pub fn has_numbered(&self, layout: LayoutId) -> bool
+        ensures { result ≡ has_layout self.now.numbers layout }
+    {
+        has_layout(self.numbers.as_slice(), layout)
+    }
+
+    /// Whether a layout has this number so far.
+    pub fn has_number(&self, number: u64) -> bool
+        ensures { result ≡ has_number self.now.numbers number }
+    {
+        has_number(self.numbers.as_slice(), number)
+    }
+
+    /// Lists the number of a layout.
+    #[tactic(auto, unfolding(crate::specs::Input::with_number))]
+    pub fn put_number(&mut self, layout: LayoutId, number: u64) -> Result<(), AllocError>
+        ensures { OnOk result (self.new ≡ spec.with_number (record { layout = layout; number = number }) self.old) }
+    {
+        self.numbers.push(LayoutNumber { layout, number })?;
+        Ok(())
+    }
+
+    /// Takes the numbers of layouts out.
+    #[tactic(auto, unfolding(crate::specs::Input::without_numbers))]
+    pub fn take_numbers(&mut self, alloc: Global) -> Items<LayoutNumber>
+        ensures numbers { result ≡ self.old.numbers }
+        ensures rest { self.new ≡ spec.without_numbers self.old }
+    {
+        mem::replace(&mut self.numbers, Items::new(alloc))
     }
 
     /// Begins the section of a function.

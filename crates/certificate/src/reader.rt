@@ -25,13 +25,14 @@ use crate::foreign_forms::foreign_names;
 use crate::forms::{mark, new_block, new_function, new_parameter};
 use crate::input::{Input, WordFault};
 use crate::mistake::Mistake;
+use crate::number_forms::layout_numbers;
 use crate::progress::{Kept, Progress};
 use crate::promises::promise;
 use crate::shape_draft::ShapeDraft;
 use crate::shape_forms::{none_missing, shape_lines};
 use crate::starts::{goes_with, shapes_at_start};
 use certs::{Certs, Promise, Section, family_of_type, family_of_value, is_opaque_text};
-use ir_ast::{BlockId, FuncId, Function, Module, Shapes, SymbolId};
+use ir_ast::{BlockId, FuncId, Function, Module, Outside, Shapes};
 use items::Items;
 use name_text::{is_number, place};
 use std::alloc::{AllocError, Global};
@@ -366,13 +367,27 @@ fn finished(alloc: Global, input: &mut Input<'_>) -> Result<Items<Section>, Word
     Ok(sections_in(alloc, kept)?)
 }
 
-/// Certificates after the functions outside, without shapes.
+/// What is said of the code outside: numbers of layouts, and functions that are trusted.
+#[tactic(auto, unfolding(crate::specs::Text::outside_lines))]
+fn outside_lines(
+    alloc: Global,
+    input: &mut Input<'_>,
+    module: &Module,
+) -> Result<Outside, WordFault>
+    ensures { Reads ((text.outside_lines «module».now).read input.old) result input.new }
+{
+    let numbers = layout_numbers(alloc, input, module)?;
+    let functions = foreign_names(alloc, input, module)?;
+    Ok(Outside { functions, numbers })
+}
+
+/// Certificates after what is said of the code outside, without shapes.
 #[tactic(auto, unfolding(crate::specs::Text::without_shapes))]
 fn without_shapes(
     alloc: Global,
     input: &mut Input<'_>,
     module: &Module,
-    foreign: Items<SymbolId>,
+    foreign: Outside,
 ) -> Result<Certs, WordFault>
     ensures { Reads ((text.without_shapes «module».now foreign).read input.old) result input.new }
 {
@@ -396,13 +411,13 @@ fn shapes_of(module: &Module, shapes: Shapes) -> Option<Shapes>
     }
 }
 
-/// Certificates after the functions outside, with shapes.
+/// Certificates after what is said of the code outside, with shapes.
 #[tactic(auto, unfolding(crate::specs::Text::with_shapes, crate::specs::ShapeForms::taken_shapes))]
 fn with_shapes(
     alloc: Global,
     input: &mut Input<'_>,
     module: &Module,
-    foreign: Items<SymbolId>,
+    foreign: Outside,
 ) -> Result<Certs, WordFault>
     ensures { Reads ((text.with_shapes «module».now foreign).read input.old) result input.new }
 {
@@ -425,7 +440,7 @@ fn file(alloc: Global, input: &mut Input<'_>, module: &Module) -> Result<Certs, 
     input.expect(b"cert")?;
     let shaped = version(input, module)?;
     input.line_end()?;
-    let foreign = foreign_names(alloc, input, module)?;
+    let foreign = outside_lines(alloc, input, module)?;
     if shaped {
         with_shapes(alloc, input, module, foreign)
     } else {
@@ -510,7 +525,7 @@ pub fn read_cert(alloc: Global, bytes: &[u8], module: &Module) -> Result<Certs, 
     ensures fits { IfOk result (λ certs. fits «module».now certs.sections ≡ true) }
     // Those of an opaque text have its shapes, those of a typed text none.
     ensures shapes { HasGlobals «module».now → IfOk result (λ certs. shapes_fit «module».now certs.shapes ≡ true) }
-    // They trust functions outside of the module alone, each once, and none where the wide forms may not stand.
+    // They trust functions outside of the module alone, each once, and number its layouts, each once; and so only where the wide forms may stand.
     ensures foreign { IfOk result (λ certs. foreign_fits «module».now certs.foreign ≡ true) }
     // What is a text of some certificates is read, unless memory runs out.
     ensures only { (certs : SomeCerts) → IsCert bytes.now «module».now certs → Gives fault.Memory result (Ok certs) }

@@ -12,7 +12,7 @@ ghost use Rattle.std.specs.Prelude.{List};
 use crate::anew::read_section;
 use crate::fault::CertFault;
 use certs::{Certs, Claim, Section};
-use copies::{copy_shapes, copy_symbols};
+use copies::{copy_outside, copy_shapes};
 use ir_ast::{FuncId, Module};
 use items::Items;
 use std::alloc::{AllocError, Global};
@@ -58,7 +58,7 @@ pub(crate) fn copied_certs(alloc: Global, certs: &Certs) -> Result<Certs, AllocE
 {
     let sections = copied_sections(alloc, certs.sections.as_slice())?;
     let shapes = copy_shapes(alloc, &certs.shapes)?;
-    let foreign = copy_symbols(alloc, certs.foreign.as_slice())?;
+    let foreign = copy_outside(alloc, &certs.foreign)?;
     Ok(Certs {
         sections,
         shapes,

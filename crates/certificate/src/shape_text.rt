@@ -6,16 +6,18 @@ ghost use Rattle.certificate.specs.ShapeText.{AreShapes, IsShapesFault};
 ghost use Rattle.certificate.specs.Starts.{AreBegun};
 ghost use Rattle.certificate.specs.declared.fault.CertFault.{CertFault as AFault};
 ghost use Rattle.certificate.specs.declared.fault.CertFault.TheVariants as fault;
+ghost use Rattle.certificate.specs.declared.given_shapes.GivenShapes.{GivenShapes as SomeGiven};
 ghost use Rattle.certificate.specs.declared.shape_draft.ShapeDraft.{ShapeDraft as ADraft};
 ghost use Rattle.grammar.specs.Outcome.{Gives};
 ghost use Rattle.grammar.specs.Whole.{value_of};
-ghost use Rattle.ir_ast.specs.declared.shapes.Shapes.{Shapes as SomeShapes};
 ghost use Rattle.name_text.specs.Reader.{Reads};
 ghost use Rattle.name_text.specs.declared.found.WordFault.TheVariants.{Memory};
 
 use crate::fault::CertFault;
+use crate::given_shapes::GivenShapes;
 use crate::input::{Input, WordFault};
 use crate::mistake::Mistake;
+use crate::number_forms::layout_numbers;
 use crate::progress::Progress;
 use crate::reader::{no_sections, placed};
 use crate::shape_draft::ShapeDraft;
@@ -55,13 +57,15 @@ fn whole(alloc: Global, input: &mut Input<'_>, module: &Module) -> Result<Shapes
 }
 
 #[tactic(auto, unfolding(crate::specs::ShapeForms::text))]
-fn text(alloc: Global, input: &mut Input<'_>, module: &Module) -> Result<Shapes, WordFault>
+fn text(alloc: Global, input: &mut Input<'_>, module: &Module) -> Result<GivenShapes, WordFault>
     ensures { Reads ((form.text «module».now).read input.old) result input.new }
 {
     input.expect(b"shapes")?;
     version(input)?;
     input.line_end()?;
-    whole(alloc, input, module)
+    let numbers = layout_numbers(alloc, input, module)?;
+    let shapes = whole(alloc, input, module)?;
+    Ok(GivenShapes { shapes, numbers })
 }
 
 fn shapes_in(
@@ -69,7 +73,7 @@ fn shapes_in(
     bytes: &[u8],
     module: &Module,
     begun: ShapeDraft,
-) -> Result<Shapes, WordFault>
+) -> Result<GivenShapes, WordFault>
     ensures { Gives Memory result (value_of ((form.text «module».now).read (start_of «module».now begun bytes.now))) }
 {
     let sections = no_sections(alloc, module)?;
@@ -85,10 +89,10 @@ fn shapes_after(
     bytes: &[u8],
     module: &Module,
     begun: ShapeDraft,
-) -> Result<Shapes, CertFault>
+) -> Result<GivenShapes, CertFault>
     requires begun { AreBegun «module».now begun }
     ensures found { IfOk result (AreShapes bytes.now «module».now) }
-    ensures only { (shapes : SomeShapes) → AreShapes bytes.now «module».now shapes → Gives fault.Memory result (Ok shapes) }
+    ensures only { (shapes : SomeGiven) → AreShapes bytes.now «module».now shapes → Gives fault.Memory result (Ok shapes) }
     ensures fault { IfErr result (λ e. e ≢ fault.Memory → IsShapesFault bytes.now «module».now e) }
     ensures only_fault { (e : AFault) → IsShapesFault bytes.now «module».now e → Gives fault.Memory result (Err e) }
 {
@@ -98,12 +102,12 @@ fn shapes_after(
     }
 }
 
-/// Reads the shapes of a module from a text of their own.
-pub fn read_shapes(alloc: Global, bytes: &[u8], module: &Module) -> Result<Shapes, CertFault>
+/// Reads the shapes of a module from a text of their own, with numbers of layouts.
+pub fn read_shapes(alloc: Global, bytes: &[u8], module: &Module) -> Result<GivenShapes, CertFault>
     // What is read is a text of these shapes.
     ensures found { IfOk result (AreShapes bytes.now «module».now) }
     // What is a text of some shapes is read, unless memory runs out.
-    ensures only { (shapes : SomeShapes) → AreShapes bytes.now «module».now shapes → Gives fault.Memory result (Ok shapes) }
+    ensures only { (shapes : SomeGiven) → AreShapes bytes.now «module».now shapes → Gives fault.Memory result (Ok shapes) }
     // What is refused is refused for its first fault.
     ensures fault { IfErr result (λ e. e ≢ fault.Memory → IsShapesFault bytes.now «module».now e) }
     // What has a first fault is refused for it, unless memory runs out.

@@ -4,6 +4,7 @@ pub mod RootNames
 pub mod Fits
 pub mod Families
 pub mod ShapesFit
+pub mod NumbersFit
 pub mod ForeignFit
 pub mod Plain
 pub mod Runs

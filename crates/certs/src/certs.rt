@@ -9,7 +9,7 @@ use crate::fits::sections_fit;
 use crate::foreign::foreign_fits;
 use crate::section::{Mark, Section};
 use crate::shapes::shapes_fit;
-use ir_ast::{FuncId, Module, Shapes, SymbolId};
+use ir_ast::{FuncId, Module, Outside, Shapes};
 use items::Items;
 
 /// The certificates of a module's functions.
@@ -19,8 +19,8 @@ pub struct Certs {
     pub sections: Items<Section>,
     /// What the words, globals and slots of type `ptr` refer to. Those of a typed text have none.
     pub shapes: Option<Shapes>,
-    /// The functions outside of the module whose promise is trusted.
-    pub foreign: Items<SymbolId>,
+    /// The functions outside of the module whose promise is trusted, and the numbers of layouts.
+    pub foreign: Outside,
 }
 
 impl Certs {
@@ -72,12 +72,12 @@ impl Certs {
 
     /// Whether these are certificates of this module: its sections, and shapes exactly where its text writes `ptr`, which name layouts of it,
     /// one for each global and each root slot of type `ptr`. Whether each word of that type has one is told by the layouts. Functions outside are
-    /// trusted of a module of the wide forms alone, each once; they are compared with one another. It takes no memory.
+    /// trusted of a module of the wide forms alone, each once, and so layouts have numbers; they are compared with one another. It takes no memory.
     pub fn fits(&self, module: &Module) -> bool
         ensures { result ≡ spec.fits «module».now self.now.sections && shapes_fit «module».now self.now.shapes && foreign_fits «module».now self.now.foreign }
     {
         self.sections_fit(module)
             && shapes_fit(module, &self.shapes)
-            && foreign_fits(module, self.foreign.as_slice())
+            && foreign_fits(module, &self.foreign)
     }
 }

@@ -76,10 +76,10 @@ pub data OfCerts (refusals : Refusals) (m : Module) (certs : Certs) : Said → T
 -- ---- make
 
 -- what is said of a module for which certificates are made, while it trusts the functions outside that it calls: some that fit it, have its
--- shapes, trust what it trusts and with which it is accepted; that there are none, as the plain ones are refused, and if asked for the first
+-- shapes, trust what it trusts, list its numbers of layouts, and with which it is accepted; that there are none, as the plain ones are refused, and if asked for the first
 -- refusal with some that fit it; the fault of the layouts; or that memory was refused
 pub data OfMade (why : Why) (m : Module) : Said → Type 0 where
-  made : (certs : Certs) → fits (trusting m) certs.sections ≡ true → certs.shapes ≡ m.shapes → certs.foreign ≡ to_trust m → IsAccepted (trusting m) certs.sections
+  made : (certs : Certs) → fits (trusting m) certs.sections ≡ true → certs.shapes ≡ m.shapes → certs.foreign ≡ (trusting m).trusted → IsAccepted (trusting m) certs.sections
       → OfMade why m (OnOutput (made_text (cert_text certs (trusting m))))
   none_made : IsPlainlyRefused (trusting m) → OfMade why m (OnOutput no_answer)
   none_made_why : (certs : List Section) (refusal : Refusal) → why ≡ Wanted → IsPlainlyRefused (trusting m) → fits (trusting m) certs ≡ true → IsFirstRefusal (trusting m) certs refusal

@@ -7,7 +7,7 @@ use Rattle.certs.specs.declared.certs.Certs.{Certs}
 use Rattle.module_check.specs.Accepted.{IsProgramCertified, shaped}
 use Rattle.lowering.specs.Lowered.{lowered_text}
 use Rattle.reports.specs.Report.{Answer, made_text, no_memory}
-use Rattle.reports.specs.Files.{HasProgram, IsNoProgram, of_unread}
+use Rattle.reports.specs.Files.{HasProgram, IsNoProgram, kept, of_unread}
 use Rattle.reports.specs.Said.{Said, OnOutput, OnError, OnBoth, OfCertified, OfVerdict}
 use Rattle.reports.specs.declared.files.File.{File}
 use Rattle.reports.specs.declared.files.ModuleFile.{ModuleFile}
@@ -34,6 +34,10 @@ pub data OfUnchecked (recorded : Bool) (first : Option ModuleFile) (shapes : Opt
   not_unchecked : OfUnchecked recorded first shapes (OnError no_memory)
 
 -- what is said of the files of a module and, where they are given, of its certificates or its shapes
+abbrev pub OfLowerGiven : (recorded : Bool) → (first : Option ModuleFile) → (certificate shapes : Option File) → Said → Type 0
+OfLowerGiven recorded first None shapes = OfUnchecked recorded first shapes
+OfLowerGiven recorded first (Some certificate) shapes = OfCertified (OfLowered recorded) first (Some certificate)
+
+-- the same where all of the module is to be kept
 abbrev pub OfLower : (recorded : Bool) → (first : Option ModuleFile) → (certificate shapes : Option File) → Said → Type 0
-OfLower recorded first None shapes = OfUnchecked recorded first shapes
-OfLower recorded first (Some certificate) shapes = OfCertified (OfLowered recorded) first (Some certificate)
+OfLower recorded first certificate shapes = OfLowerGiven recorded (kept first) certificate shapes

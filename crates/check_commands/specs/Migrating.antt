@@ -9,7 +9,7 @@ use Rattle.certificate.specs.Print.{cert_text}
 use Rattle.certificate.specs.declared.fault.CertFault.{CertFault}
 use Rattle.certificate.specs.declared.fault.CertFault.TheVariants as cert
 use Rattle.reports.specs.Report.{made_text, no_memory, of_cert_fault}
-use Rattle.reports.specs.Files.{HasModule, IsNoModule, bytes_of, file_of, of_unread}
+use Rattle.reports.specs.Files.{HasModule, IsNoModule, bytes_of, file_of, kept, of_unread}
 use Rattle.reports.specs.Said.{Said, OnOutput, OnError, OfCertified}
 use Rattle.reports.specs.declared.files.File.{File}
 use Rattle.reports.specs.declared.files.ModuleFile.{ModuleFile}
@@ -51,6 +51,10 @@ pub data OfMigrated (bytes : List ℕ) (m : Module) (certs : Certs) : Said → T
   not_migrated : OfMigrated bytes m certs (OnError no_memory)
 
 -- what is said of the files of a module and, where it is given, of its certificates
+abbrev pub OfMigrateGiven : (first : Option ModuleFile) → (certificate : Option File) → Said → Type 0
+OfMigrateGiven first None = OfModule first
+OfMigrateGiven first (Some certificate) = OfCertified (OfMigrated (known_bytes (Some certificate))) first (Some certificate)
+
+-- the same where all of the module is to be kept
 abbrev pub OfMigrate : (first : Option ModuleFile) → (certificate : Option File) → Said → Type 0
-OfMigrate first None = OfModule first
-OfMigrate first (Some certificate) = OfCertified (OfMigrated (known_bytes (Some certificate))) first (Some certificate)
+OfMigrate first certificate = OfMigrateGiven (kept first) certificate

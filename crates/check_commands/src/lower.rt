@@ -1,6 +1,6 @@
 //! The command `lower`.
 ghost use Rattle.std.specs.Prelude.{◌≡◌, IfOk, codes};
-ghost use Rattle.check_commands.specs.Lowering.{of_lowered, OfLower, OfLowered, OfProgram, OfUnchecked};
+ghost use Rattle.check_commands.specs.Lowering.{of_lowered, OfLower, OfLowerGiven, OfLowered, OfProgram, OfUnchecked};
 ghost use Rattle.copies.specs.Opaque.{opaque_module};
 ghost use Rattle.lowering.specs.Lowered.{lowered_text};
 ghost use Rattle.reports.specs.Files.{HasProgram};
@@ -13,8 +13,8 @@ use layout::Program;
 use lowering::lower;
 use module_check::check;
 use reports::{
-    Certified, Files, Outputs, STATUS_YES, memory, program_in, read_certified, report_verdict,
-    unread,
+    Certified, Files, Outputs, STATUS_YES, kept_files, memory, program_in, read_certified,
+    report_verdict, unread,
 };
 use std::alloc::{AllocError, Global};
 use std::io;
@@ -136,8 +136,24 @@ fn lower_unchecked(
     }
 }
 
+/// Prints the text that LLVM gets of the module: where a certificate is given, if the module is accepted with it.
+fn lower_given(
+    alloc: Global,
+    options: LowerOptions,
+    files: &Files<'_>,
+    outputs: &mut Outputs,
+) -> io::Result<u8>
+    ensures { IfOk result (Says (OfLowerGiven options.recorded files.now.of_module files.now.certificate files.now.shapes) outputs.old outputs.new) }
+{
+    match files.certificate {
+        Some(_) => lower_checked(alloc, options.recorded, files, outputs),
+        None => lower_unchecked(alloc, options.recorded, files, outputs),
+    }
+}
+
 /// Prints the text that LLVM gets of the module: where a certificate is given, if the module is accepted with it. The first fault counts: of
-/// the module, its path and then its text; of the certificate or the shapes likewise; then of the layouts; and then of the check.
+/// the module, its path and then its text; of the certificate or the shapes likewise; then of the layouts; and then of the check. A text of
+/// which something is lost that compiled code needs has L7.
 pub fn lower_files(
     alloc: Global,
     options: LowerOptions,
@@ -146,8 +162,6 @@ pub fn lower_files(
 ) -> io::Result<u8>
     ensures { IfOk result (Says (OfLower options.recorded files.now.of_module files.now.certificate files.now.shapes) outputs.old outputs.new) }
 {
-    match files.certificate {
-        Some(_) => lower_checked(alloc, options.recorded, files, outputs),
-        None => lower_unchecked(alloc, options.recorded, files, outputs),
-    }
+    let of_kept = kept_files(files);
+    lower_given(alloc, options, &of_kept, outputs)
 }

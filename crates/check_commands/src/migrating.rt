@@ -1,7 +1,7 @@
 //! The command `migrate`.
 ghost use Rattle.std.specs.Prelude.{◌≡◌, Ok, IfOk};
 ghost use Rattle.certificate.specs.Migrated.{IsMigration};
-ghost use Rattle.check_commands.specs.Migrating.{known_bytes, migrated_text, OfCerts, OfMigrate, OfMigrated, OfModule, OfText};
+ghost use Rattle.check_commands.specs.Migrating.{known_bytes, migrated_text, OfCerts, OfMigrate, OfMigrateGiven, OfMigrated, OfModule, OfText};
 ghost use Rattle.copies.specs.Opaque.{opaque_module};
 ghost use Rattle.reports.specs.Report.{IsTold, made_text};
 ghost use Rattle.reports.specs.Said.{OfCertified, Says};
@@ -12,7 +12,7 @@ use copies::opaque;
 use ir_ast::Module;
 use ir_print::print;
 use reports::{
-    Certified, File, Files, Outputs, STATUS_YES, bytes_of, file_of, memory, module_in,
+    Certified, File, Files, Outputs, STATUS_YES, bytes_of, file_of, kept_files, memory, module_in,
     no_certificate, read_certified, unread,
 };
 use std::alloc::{AllocError, Global};
@@ -194,13 +194,21 @@ fn migrate_certs(alloc: Global, files: &Files<'_>, outputs: &mut Outputs) -> io:
     }
 }
 
-/// Prints the opaque text of the module, or the certificates of that text where a certificate is given. The first fault counts: of each
-/// of the two files, its path and then its text, then of the shapes.
-pub fn migrate_files(alloc: Global, files: &Files<'_>, outputs: &mut Outputs) -> io::Result<u8>
-    ensures { IfOk result (Says (OfMigrate files.now.of_module files.now.certificate) outputs.old outputs.new) }
+/// Prints the opaque text of the module, or the certificates of that text where a certificate is given.
+fn migrate_given(alloc: Global, files: &Files<'_>, outputs: &mut Outputs) -> io::Result<u8>
+    ensures { IfOk result (Says (OfMigrateGiven files.now.of_module files.now.certificate) outputs.old outputs.new) }
 {
     match files.certificate {
         Some(_) => migrate_certs(alloc, files, outputs),
         None => migrate_module(alloc, files, outputs),
     }
+}
+
+/// Prints the opaque text of the module, or the certificates of that text where a certificate is given. The first fault counts: of each
+/// of the two files, its path and then its text, then of the shapes. A text of which something is lost that compiled code needs has L7.
+pub fn migrate_files(alloc: Global, files: &Files<'_>, outputs: &mut Outputs) -> io::Result<u8>
+    ensures { IfOk result (Says (OfMigrate files.now.of_module files.now.certificate) outputs.old outputs.new) }
+{
+    let of_kept = kept_files(files);
+    migrate_given(alloc, &of_kept, outputs)
 }

@@ -48,7 +48,7 @@ fn opaque_and_shapes(alloc: Global) -> Option<(Module, Shapes)> {
         return None;
     };
     match read_shapes(alloc, SHAPES.as_bytes(), &module) {
-        Ok(shapes) => Some((module, shapes)),
+        Ok(given) => Some((module, given.shapes)),
         Err(_) => {
             drop(module);
             None
@@ -195,9 +195,12 @@ fn shapes_of_two(alloc: Global) -> Option<Shapes> {
     let Ok(module) = read(alloc, TWO_POINTERS.as_bytes()) else {
         return None;
     };
-    let shapes = read_shapes(alloc, SHAPES_OF_TWO.as_bytes(), &module);
+    let given = read_shapes(alloc, SHAPES_OF_TWO.as_bytes(), &module);
     drop(module);
-    shapes.ok()
+    match given {
+        Ok(given) => Some(given.shapes),
+        Err(_) => None,
+    }
 }
 
 /// `OPAQUE` and its certificates with a shape of the integer of its struct.

@@ -173,7 +173,11 @@ fn files_at<'a>(
         bytes: Some(of_module),
     };
     Files {
-        of_module: Some(ModuleFile { file, wide }),
+        of_module: Some(ModuleFile {
+            file,
+            wide,
+            keeps: false,
+        }),
         certificate: Some(File {
             path: cert_path,
             bytes: Some(certificate),

@@ -35,7 +35,11 @@ fn module_file_of<'a>(
     wide: bool,
 ) -> Option<ModuleFile<'a>> {
     let file = file_of(path, bytes)?;
-    Some(ModuleFile { file, wide })
+    Some(ModuleFile {
+        file,
+        wide,
+        keeps: false,
+    })
 }
 
 /// The path of a file that is given and was not read.

@@ -14,7 +14,7 @@ mod type_numbers;
 
 pub use function::{copy_collector, copy_function};
 pub use of_module::{
-    Certified, Defined, copy_certified, copy_module, copy_shapes, copy_symbols, joined,
+    Certified, Defined, copy_certified, copy_module, copy_outside, copy_shapes, joined,
 };
 pub use opaque_module::opaque;
 pub use tables::{Tables, copy_names, copy_tables};

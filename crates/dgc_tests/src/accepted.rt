@@ -89,10 +89,15 @@ pub fn checked_by_three(
     done(rt, row.folder, &command)
 }
 
-/// A text of the shapes of a certificate, if it has some: its lines between the first one and the first section, but for those of functions
-/// outside of the module.
+/// Whether a certificate has shapes, or lists numbers of layouts.
+fn has_shapes(certificate: &str) -> bool {
+    certificate.starts_with("cert 2") || certificate.lines().any(|line| line.starts_with("number "))
+}
+
+/// A text of the shapes and the numbers of layouts of a certificate, if it has some: its lines between the first one and the first section,
+/// but for those of functions outside of the module.
 fn shapes_in(alloc: Global, certificate: &str) -> Result<Option<Vec<u8>>, AllocError> {
-    if !certificate.starts_with("cert 2") {
+    if !has_shapes(certificate) {
         return Ok(None);
     }
     let mut shapes = Vec::from_slice(alloc, b"shapes 1\n")?;

@@ -4,7 +4,7 @@ ghost use Rattle.diagnosis.specs.KnownClaims as spec;
 
 use certs::{Age, Certs, Claim, Fact, Mark, Section};
 use facts::{ClassId, Facts, Known};
-use ir_ast::{FuncId, ValueId};
+use ir_ast::{FuncId, Outside, ValueId};
 use items::Items;
 use pools::LayoutId;
 use std::alloc::{AllocError, Global};
@@ -80,6 +80,6 @@ pub fn claims_as_certs(
     Ok(Certs {
         sections,
         shapes: None,
-        foreign: Items::new(alloc),
+        foreign: Outside::none(alloc),
     })
 }

@@ -1,6 +1,7 @@
 -- Certificates that fit a module fit it after each edit of its code.
 use Rattle.std.proofs.Common.{◌≡◌, ◌∙◌, ℕ, true, List, Option, sym, ap, subst}
 use Rattle.ir_ast.specs.declared.module.Module.{Module}
+use Rattle.ir_ast.specs.declared.outside.Outside.{Outside}
 use Rattle.ir_ast.specs.declared.shapes.Shapes.{Shapes}
 use Rattle.ir_tokens.specs.Bytes.{Text}
 use Rattle.layout.specs.Functions.{with_functions}
@@ -26,7 +27,7 @@ module _ (stay : StayFitting) (others : OthersStayFitting) (pointers : PointersS
       let is = of_code.0 in
       let with_own : shapes_fit m m.shapes ≡ true = subst (λ (x : Option Shapes). shapes_fit m x ≡ true) (sym fit.same) fit.shapes in
       let opaque = pointers m func code n is of_code.1 with_own in
-      let trust = foreign_stays m func code n is in
+      let trust = foreign_stays m func code n closed is opaque in
       let kept : n.shapes ≡ t.certs.shapes = sym (ap (λ (x : Module). x.shapes) is.2) ∙ fit.same ∙ sym is_put.shapes in
       record {
         sections = subst (λ (x : Module). fits x t.certs.sections ≡ true) (sym is_put.of_module)
@@ -34,7 +35,7 @@ module _ (stay : StayFitting) (others : OthersStayFitting) (pointers : PointersS
         shapes = subst (λ (x : Option Shapes). shapes_fit (module_in t) x ≡ true) kept
             (subst (λ (x : Module). shapes_fit x n.shapes ≡ true) (sym is_put.of_module) (shapes_stay m func code n closed is opaque (shaped n func of_text.1) with_own));
         same = ap (λ (x : Module). x.shapes) is_put.of_module ∙ kept;
-        foreign = subst (λ (x : List ℕ). foreign_fits (module_in t) x ≡ true) (sym is_put.foreign)
+        foreign = subst (λ (x : Outside). foreign_fits (module_in t) x ≡ true) (sym is_put.foreign)
             (subst (λ (x : Module). foreign_fits x s.certs.foreign ≡ true) (sym is_put.of_module) (trust.1 s.certs.foreign fit.foreign));
         trusted = ap (λ (x : Module). x.trusted) is_put.of_module ∙ trust.0 ∙ fit.trusted ∙ sym is_put.foreign;
       }

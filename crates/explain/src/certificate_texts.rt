@@ -6,8 +6,9 @@ C1  A certificate has the form of docs/CERTIFICATES.md, and each fact fits the
 
 The place is the first word, or the end of the line, with which no form goes on.
 Words of a claim have an order: `nonnull` comes before `fresh` and `stale`. A
-tab parts no words. Lines `foreign` stand directly after the first line, and
-only with `--forms wide`. The one fault of a text of edits is C1 too.
+tab parts no words. Lines `number` and then lines `foreign` stand directly after
+the first line, and only with `--forms wide`. The number of a layout is below
+4294967296. The one fault of a text of edits is C1 too.
 
 Why: A claim is taken as it stands. One that is misread would be checked for
 what its author did not claim.
@@ -113,8 +114,8 @@ See also: C5 (what the certificate lacks)
 pub(crate) const C4: &str = "\
 C4  Each function, block, value, slot and fact is listed once.
 
-So is each function outside, on a line `foreign`. The place is that of the
-second one.
+So is each function outside, on a line `foreign`, and each layout and each
+number on lines `number`. The place is that of the second one.
 
 Why: Two lists would not say which of them is meant.
 

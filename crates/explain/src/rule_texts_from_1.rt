@@ -43,10 +43,13 @@ K2  Each operand has its written type, and fits.
 A number is one of its bits. With `--forms wide` a `float` is one of 32 bits and
 a `double` one of 64, and no index is of these types. A reference goes where its
 layout fits. A load or a store has the type of each word at which it may be;
-under `ptr` these words are references of one layout. An address is allowed only
-as the place of a load, a store, gcread or gcwrite, or as the operand of
-getelementptr or bitcast. A global is the address of its word, so its value has
-to be loaded. A function outside of the module takes numbers and null alone.
+under `ptr` these words are references of one layout. The number of dg_alloc is
+a constant that means a layout: the struct at this place of the text, from 0, or
+where the certificate has lines `number` the layout of its line. An address is
+allowed only as the place of a load, a store, gcread or gcwrite, or as the
+operand of getelementptr or bitcast. A global is the address of its word, so its
+value has to be loaded. What is outside of the module is no value: a function
+outside takes it, and numbers and null, and nothing else does.
 
 Why: What the collector follows as a reference has to be one, and a cell's words
 have to be those of its layout. An address is no reference that could be kept:

@@ -290,8 +290,8 @@ wide` LLVM's functions of integers and of floating point numbers, as
 llvm.smax.i32 and llvm.sqrt.f64, are called so too, and so is a function that is
 only declared and gives a number or nothing, if the certificate has `foreign @f
 none`. A call with another number of arguments is refused too. In such a call
-gcroot may still name a slot, and gcread and gcwrite an address, so that K18 is
-what is told.
+gcroot may still name a slot, gcread and gcwrite an address, and each function
+an address outside, so that K18 is what is told.
 
 Why: Of any other function nothing is known: it could reach a safepoint, keep a
 reference, or store one without a barrier. A line `foreign` promises that it

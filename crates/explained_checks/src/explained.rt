@@ -1,7 +1,7 @@
 //! Explains refusals in a program, and faults of texts.
 use block_rules::Refusal;
 use certs::Certs;
-use explanations::{Source, Texts, put_refusal};
+use explanations::{FunctionPlaces, Source, Texts, put_refusal};
 use fault_texts::{CheckedTexts, put_cert_fault, put_read_fault};
 use ir_tokens::{TEXT_LIMIT, Token, read_tokens};
 use layout::Program;
@@ -29,10 +29,18 @@ fn put_refusals(
     certs: &Certs,
     refusals: &[Refusal],
 ) {
+    let mut places = FunctionPlaces::none();
     for (number, refusal) in refusals.iter().enumerate() {
         out.put(if number == 0 { "" } else { "\n" });
-        put_refusal(pen, out, texts, program, certs, *refusal);
+        match places.renew(pen.alloc, &texts.source, program.module(), refusal.func) {
+            Ok(()) => {
+                let texts = texts.with_places(&places);
+                put_refusal(pen, out, texts, program, certs, *refusal);
+            }
+            Err(_) => out.refuse(),
+        }
     }
+    drop(places);
 }
 
 /// The texts of a module, with its tokens, and of its certificate.
@@ -40,6 +48,7 @@ pub(crate) fn texts_of_each<'a>(texts: CheckedTexts<'a>, tokens: &'a [Token]) ->
     let NamedText { path, text } = texts.of_module;
     Texts {
         source: Source { path, text, tokens },
+        places: None,
         certificate: texts.of_certs,
     }
 }

@@ -3,7 +3,7 @@ use crate::explained::{put_unread, texts_of_each};
 use answer_objects::{FileTexts, Finding, finding_of};
 use block_rules::{Detail, Refusal};
 use certs::Certs;
-use explanations::{Texts, name_of, put_refusal};
+use explanations::{FunctionPlaces, Texts, name_of, put_refusal};
 use fault_texts::CheckedTexts;
 use ir_ast::{BlockId, Function, Module};
 use ir_tokens::{TEXT_LIMIT, read_tokens};
@@ -143,9 +143,13 @@ pub(crate) fn refusals_in(
     }
     let lexed = read_tokens(alloc, texts.of_module.text)?;
     let each = texts_of_each(texts, lexed.tokens.as_slice());
+    let mut places = FunctionPlaces::none();
     for refusal in refusals {
+        places.renew(alloc, &each.source, program.module(), refusal.func)?;
+        let each = each.with_places(&places);
         found.push(told(alloc, each, files, program, certs, refusal)?)?;
     }
+    drop(places);
     drop(lexed);
     Ok(found)
 }

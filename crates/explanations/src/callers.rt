@@ -8,7 +8,7 @@ use block_rules::{Refusal, RuleContext};
 use diagnosis::facts_before;
 use ir_ast::{Block, End, FuncId, Function, Instr, Op, Operand, SymbolSort, ValueId};
 use messages::Message;
-use scenes::{Definition, Scene, Spot, block_id, definition_of, local};
+use scenes::{Definition, FunctionPlaces, Scene, Spot, block_id, definition_of, local};
 use shadow_stack::slots_of;
 use std::alloc::AllocError;
 
@@ -38,9 +38,22 @@ fn put_in_scene(
     if lost_before(scene, &scene.spot(), Some(value))?.is_none() {
         return Ok(false);
     }
-    let told = Told::of(scene, Some(Operand::Local(value)));
+    let mut places = FunctionPlaces::none();
+    let of_module = scene.context.module();
+    places.renew(
+        scene.pen.alloc,
+        &scene.source,
+        of_module,
+        scene.refusal.func,
+    )?;
+    let scene = Scene {
+        places: Some(&places),
+        ..*scene
+    };
+    let told = Told::of(&scene, Some(Operand::Local(value)));
     put_note(out, &told, &scene.spot(), told.it, text);
     put_lost(out, &told, &[]);
+    drop(places);
     Ok(true)
 }
 
@@ -70,6 +83,7 @@ fn put_in_function(
     };
     let there = Scene {
         context,
+        places: None,
         facts: &facts,
         refusal,
         ..*scene

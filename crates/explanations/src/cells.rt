@@ -1,7 +1,9 @@
 //! K2 and K5: the words of a layout, the elements of an array, and which operand is no value.
+use crate::layout_numbers::{put_numbered, put_numbers};
 use crate::mistyped::{put_rooted, put_slot_type, special_in};
-use crate::notes::{MARGIN, put_line, put_mend, put_mend_word, put_or};
+use crate::notes::{put_line, put_mend, put_mend_word, put_or};
 use crate::nulls::{is_made_here, is_value};
+use crate::outside::misused_outside;
 use crate::told::{Told, call_of, op_of, put_text, value_in};
 use crate::write_barrier::put_object;
 use facts::Known;
@@ -181,27 +183,6 @@ fn put_words_of(out: &mut Message, scene: &Scene, operand: Option<Operand>) {
     if let Some(layout) = layout_of(scene, operand) {
         put_words(out, scene, layout);
     }
-}
-
-/// A further line of what mends: these words, and the numbers of the layouts: `0 Node, 1 Tree`.
-fn put_layouts(out: &mut Message, scene: &Scene, words: &str) {
-    out.put(MARGIN);
-    out.put(words);
-    let module = scene.context.module();
-    for number in 0..module.structs.len() {
-        if let Ok(number) = u32::try_from(number) {
-            out.put(if number == 0 { "" } else { ", " });
-            out.put_number(number as u64);
-            out.put(" ");
-            out.put_layout(module, LayoutId::new(number), Blank::Kept);
-        }
-    }
-    out.put("\n")
-}
-
-/// The numbers of the layouts, as a further line of what mends.
-pub fn put_numbers(out: &mut Message, scene: &Scene) {
-    put_layouts(out, scene, "the numbers that dg_alloc takes: ")
 }
 
 /// The comparison that shows that an index is small enough.
@@ -400,6 +381,8 @@ pub enum Mistyped {
     Layout(Operand),
     /// The place of a load or a store.
     Place(Operand),
+    /// What is outside of the module, where no function outside is called.
+    Outside(Operand),
     /// An address where a value is wanted.
     Address(Operand),
     /// A slot where a value is wanted.
@@ -483,6 +466,9 @@ pub fn mistyped_in(scene: &Scene, operands: &[Operand], place: Option<Operand>) 
     if let Some(number) = number_of_layout(scene) {
         return Mistyped::Layout(number);
     }
+    if let Some(outside) = misused_outside(scene, operands) {
+        return Mistyped::Outside(outside);
+    }
     if let Some(found) = special_in(scene) {
         return found;
     }
@@ -503,6 +489,7 @@ pub fn operand_of(mistyped: &Mistyped) -> Option<Operand> {
     match mistyped {
         Mistyped::Layout(operand)
         | Mistyped::Place(operand)
+        | Mistyped::Outside(operand)
         | Mistyped::Address(operand)
         | Mistyped::Slot(operand)
         | Mistyped::Stored(operand)
@@ -523,6 +510,8 @@ pub fn sentence_of(mistyped: &Mistyped) -> &'static str {
         Mistyped::Layout(_) => "the module has no layout with the number {it}",
         Mistyped::Place(_) =>
             "what is read or written at {it} does not have the type of the word there",
+        Mistyped::Outside(_) =>
+            "{it} is outside of the module, and only a function outside may get it",
         Mistyped::Address(_) => "{it} is an address, and a value is wanted here",
         Mistyped::Slot(_) => "{it} is a slot, and a value is wanted here",
         Mistyped::Stored(_) => "{it} does not have the type of the word at {place}",
@@ -538,16 +527,6 @@ pub fn sentence_of(mistyped: &Mistyped) -> &'static str {
     }
 }
 
-/// The numbers that an allocation may write.
-fn put_numbered(out: &mut Message, told: &Told) {
-    put_mend(
-        out,
-        told,
-        "write the number of a layout, which are the named structs in the order of the text:",
-    );
-    put_layouts(out, told.scene, "")
-}
-
 /// The words of a cell, and a way that mends what is read there or stored.
 fn put_word_types(out: &mut Message, told: &Told, cell: Option<Operand>, text: &str) {
     put_words_of(out, told.scene, cell);
@@ -558,6 +537,8 @@ fn put_word_types(out: &mut Message, told: &Told, cell: Option<Operand>, text: &
 /// What mends an operand that is of the wrong type where it stands.
 fn mend_of(mistyped: &Mistyped) -> &'static str {
     match mistyped {
+        Mistyped::Outside(_) =>
+            "leave what is in {it} to functions outside; a global of the module holds what its code reads",
         Mistyped::Address(_) | Mistyped::Slot(_) => "load from {it} first, and use what is loaded",
         Mistyped::Argument(_) => "give a value of the type that the parameter has",
         Mistyped::Entry(_) => {

@@ -1,6 +1,6 @@
 //! K15: an edge, the claim that it does not imply, which word of that is missing and why.
-use crate::cells::put_numbers;
 use crate::holders::holder_of;
+use crate::layout_numbers::put_numbers;
 use crate::missing::{
     Missing, definer_of, holder_in, mend_of, missing_of, missing_of_slot, other_of, sentence_of,
     word_of,

@@ -7,6 +7,7 @@ mod callers;
 mod cells;
 mod edges;
 mod holders;
+mod layout_numbers;
 mod mismatches;
 mod missing;
 mod missing_blocks;
@@ -29,4 +30,4 @@ mod unrooted;
 mod write_barrier;
 
 pub use refusals::{Texts, name_of, put_refusal, store_changes};
-pub use scenes::Source;
+pub use scenes::{FunctionPlaces, Source};

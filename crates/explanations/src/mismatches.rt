@@ -1,5 +1,6 @@
 //! K5 and K19: a struct is written, and the reference refers to another one.
-use crate::cells::{cell_layout, element_of, put_numbers, put_words};
+use crate::cells::{cell_layout, element_of, put_words};
+use crate::layout_numbers::put_numbers;
 use crate::notes::{put_line, put_mend};
 use crate::told::{Told, op_of, put_text, value_in};
 use crate::unknown::{DEFINED, put_definition};

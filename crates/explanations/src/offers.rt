@@ -20,31 +20,25 @@ fn end_of(token: Token) -> usize {
     (token.start as usize).saturating_add(token.length as usize)
 }
 
-/// The bytes from one token up to the last one before another.
-fn extent_before(tokens: &[Token], first: Token, after: Token) -> Extent {
-    let start = first.start as usize;
-    let mut end = end_of(first);
-    for token in tokens {
-        if token.start < after.start {
-            end = end.max(end_of(*token));
-        }
-    }
-    Extent {
+/// The bytes of some tokens and what is between them.
+fn extent_of_tokens(tokens: &[Token]) -> Option<Extent> {
+    let start = tokens.first()?.start as usize;
+    let end = end_of(*tokens.last()?);
+    Some(Extent {
         start,
         length: end.saturating_sub(start),
-    }
+    })
 }
 
 /// The bytes of an instruction that is not the last one of its block.
-fn extent_of(scene: &Scene, spot: &Spot) -> Result<Option<Extent>, AllocError> {
+fn extent_of(scene: &Scene, spot: &Spot) -> Option<Extent> {
     let next = Spot {
         place: spot.place.saturating_add(1),
         ..*spot
     };
-    match (scene.token_of(spot)?, scene.token_of(&next)?) {
-        (Some(first), Some(after)) => { Ok(Some(extent_before(scene.source.tokens, first, after))) }
-        _ => Ok(None),
-    }
+    let first = scene.token_number(spot)?;
+    let after = scene.token_number(&next)?;
+    extent_of_tokens(scene.source.tokens.get(first..after)?)
 }
 
 /// The blanks that a line begins with, up to this many bytes of its text.
@@ -118,7 +112,7 @@ fn add_declare(
 pub fn barrier_changes(told: &Told) -> Result<Vec<Change>, AllocError> {
     let scene = told.scene;
     let mut changes = Vec::new(scene.pen.alloc);
-    if let Some(extent) = extent_of(scene, &scene.spot())? {
+    if let Some(extent) = extent_of(scene, &scene.spot()) {
         add_declare(scene, &mut changes, &Runtime::GcWrite)?;
         changes.push(Change {
             file: ChangedFile::Module,

@@ -6,6 +6,7 @@ use block_rules::TypeKind;
 use facts::Known;
 use ir_ast::{Call, Declare, Module, Operand, SymbolId, SymbolSort};
 use messages::Message;
+use outside_names::is_outside_operand;
 use scenes::{Scene, local, put_known};
 use types::is_outside;
 
@@ -107,6 +108,19 @@ pub fn handed_outside(scene: &Scene, operands: &[Operand]) -> Option<Operand> {
     None
 }
 
+/// The first operand that is an address outside, where no function outside is called.
+pub fn misused_outside(scene: &Scene, operands: &[Operand]) -> Option<Operand> {
+    if outside_call(scene).is_some() {
+        return None;
+    }
+    for operand in operands {
+        if is_outside_operand(scene.context.module(), operand) {
+            return Some(*operand);
+        }
+    }
+    None
+}
+
 /// K2 of a reference that is handed to a function outside.
 pub fn put_handed(out: &mut Message, told: &Told, operands: &[Operand]) {
     put_text(
@@ -119,6 +133,6 @@ pub fn put_handed(out: &mut Message, told: &Told, operands: &[Operand]) {
     put_mend(
         out,
         told,
-        "give it numbers, or null: a function outside takes no reference",
+        "give it numbers, null or data: a function outside takes no reference",
     )
 }

@@ -26,8 +26,8 @@ use ir_ast::{Function, Operand, Runtime};
 use layout::Program;
 use messages::{Change, Ink, Message, NamedText, Part, Pen, Pointers, put_declare_of};
 use scenes::{
-    Scene, Sought, Source, arguments_of, is_runtime_call, operands_of, place_of, put_known,
-    put_spot, subject_of,
+    FunctionPlaces, Scene, Sought, Source, arguments_of, is_runtime_call, operands_of, place_of,
+    put_known, put_spot, subject_of,
 };
 use shadow_stack::slots_of;
 use std::alloc::AllocError;
@@ -345,7 +345,19 @@ fn put_scene(out: &mut Message, scene: &Scene) {
 #[derive(Clone, Copy)]
 pub struct Texts<'a> {
     pub source: Source<'a>,
+    /// Where the instructions of the refused function are, if it was read.
+    pub places: Option<&'a FunctionPlaces>,
     pub certificate: NamedText<'a>,
+}
+
+impl<'a> Texts<'a> {
+    /// The same with the places of a function.
+    pub fn with_places(&self, places: &'a FunctionPlaces) -> Texts<'a> {
+        Texts {
+            places: Some(places),
+            ..*self
+        }
+    }
 }
 
 /// What is known where the refusal is: before the instruction, and on the edge, if it is of one.
@@ -372,6 +384,7 @@ fn put_refusal_by(
     let scene = Scene {
         pen,
         source: texts.source,
+        places: texts.places,
         certificate: texts.certificate,
         context,
         facts,

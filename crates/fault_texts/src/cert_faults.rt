@@ -31,9 +31,10 @@ const NAMED: usize = 8;
 const EDIT_WORDS: [&'static str; 4] = ["edit", "code", "cert", "both"];
 
 /// Words of a certificate.
-const WORDS: [&'static str; 21] = [
-    "cert", "shapes", "foreign", "layout", "global", "root", "function", "may", "none", "param",
-    "result", "block", "slot", "end", "ref", "nonnull", "below", "stale", "fresh", "holds", "addr",
+const WORDS: [&'static str; 22] = [
+    "cert", "shapes", "number", "foreign", "layout", "global", "root", "function", "may", "none",
+    "param", "result", "block", "slot", "end", "ref", "nonnull", "below", "stale", "fresh",
+    "holds", "addr",
 ];
 
 /// What is told of a text that is no text of edits.
@@ -80,12 +81,13 @@ fn put_cert_form(pen: Pen, out: &mut Message, site: CertSite) {
     )
 }
 
-/// What is said of a name on a line of slots that is none of a slot, and on one of functions outside.
+/// What is said of a name on a line of slots that is none of a slot, on one of functions outside, and on one of numbers of layouts.
 fn advice_on_line(site: CertSite) -> &'static str {
     match site.first() {
         b"root" | b"slot" => "a root slot is an alloca of the function that llvm.gcroot names",
         b"foreign" =>
             "a function outside is one that the module only declares, none of the runtime and no intrinsic",
+        b"number" => "LLVM leaves out a struct that no instruction names; take its line out",
         _ => "",
     }
 }

@@ -56,7 +56,7 @@ fn put_quoted_pair(out: &mut Message, first: &[u8], second: &[u8]) {
 fn owner_text(before: &[u8]) -> Option<&'static str> {
     match before {
         b"function" | b"root" => Some("the module defines no "),
-        b"ref" | b"layout" => Some("the module has no struct "),
+        b"ref" | b"layout" | b"number" => Some("the module has no struct "),
         b"global" => Some("the module has no global "),
         _ => None,
     }
@@ -125,12 +125,20 @@ pub(crate) fn put_unknown(out: &mut Message, site: CertSite) {
     }
 }
 
+/// Whether the position is at the number of a layout.
+fn is_layout_number(site: CertSite) -> bool {
+    site.first() == b"number".as_slice() && site.before() != b"number".as_slice()
+}
+
 /// C4: what is listed twice. Of the shape of a word the position is at the name of the struct.
 pub(crate) fn put_twice(out: &mut Message, site: CertSite) {
     if site.before() == b"layout".as_slice() {
         out.put("word ");
         put_word(out, site.after());
         out.put(" of ")
+    }
+    if is_layout_number(site) {
+        out.put("the number ")
     }
     put_word(out, site.word());
     out.put(" is listed twice")

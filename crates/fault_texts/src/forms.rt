@@ -199,6 +199,8 @@ pub fn trace_form_of(word: &[u8]) -> &'static str {
 pub fn cert_form_of(word: &[u8]) -> &'static str {
     match word {
         b"cert" => "cert 2 for a text with `ptr`, cert 1 for one with typed pointers",
+        b"number" =>
+            "number L N with N below 4294967296, after the first line, where the module is read with `--forms wide`",
         b"foreign" =>
             "foreign @f none, after the first line, where the module is read with `--forms wide`",
         b"layout" => "layout L WORD ref M",

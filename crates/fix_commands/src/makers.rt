@@ -1,12 +1,15 @@
 //! The text of a certificate that is made of a module.
 use cert_maker::{MakeFault, NotMade, make, make_with};
-use certificate::{print_cert, read_shapes};
+use certificate::{GivenShapes, print_cert, read_shapes};
 use ir_ast::{Module, Shapes};
 use layout::wants_shapes;
 use messages::Message;
 use module_check::Accepted;
 use name_text::{past_blanks, word};
 use std::alloc::{AllocError, Global};
+
+/// The first line of a text of shapes.
+const HEAD: &str = "shapes 1\n";
 
 /// The text of certificates that are made of a module.
 #[derive(Drop)]
@@ -37,7 +40,7 @@ fn text_of_tried(alloc: Global, unmade: &NotMade) -> Result<Option<MadeText>, Al
     }
 }
 
-/// Makes certificates of a module with these shapes.
+/// Makes certificates of a module with these shapes, and with its numbers of layouts.
 pub(crate) fn made_text(
     alloc: Global,
     of_module: Module,
@@ -67,15 +70,21 @@ fn is_shape(line: &[u8]) -> bool {
     first == b"layout".as_slice() || first == b"global".as_slice() || first == b"root".as_slice()
 }
 
-/// The shapes in a certificate's text, as a text of their own.
-fn shape_text(alloc: Global, certificate: &[u8]) -> Result<Vec<u8>, AllocError> {
+/// Whether a line of a certificate says the number of a layout.
+fn is_number(line: &[u8]) -> bool {
+    word(past_blanks(line)) == b"number".as_slice()
+}
+
+/// The numbers of layouts in a certificate's text, and its shapes if they are asked for, as a text of their own.
+fn shape_text(alloc: Global, certificate: &[u8], shaped: bool) -> Result<Vec<u8>, AllocError> {
     let mut out = Message::new(alloc);
-    out.put("shapes 1\n");
+    out.put(HEAD);
     let mut begins = true;
     let mut is_taken = false;
     for (place, byte) in certificate.iter().enumerate() {
         if begins {
-            is_taken = is_shape(certificate.get(place..).unwrap_or(&[]));
+            let line = certificate.get(place..).unwrap_or(&[]);
+            is_taken = is_number(line) || (shaped && is_shape(line));
         }
         if is_taken {
             out.put_byte(*byte);
@@ -85,19 +94,35 @@ fn shape_text(alloc: Global, certificate: &[u8]) -> Result<Vec<u8>, AllocError> 
     out.finish()
 }
 
-/// Makes certificates of a module with the shapes that a certificate's text has, of which nothing else is read. Nothing where they are not
-/// all there.
+/// Makes certificates of a module with what is given. The shapes count where it writes `ptr`.
+fn made_with(
+    alloc: Global,
+    of_module: Module,
+    given: GivenShapes,
+) -> Result<Option<MadeText>, AllocError> {
+    let mut of_module = of_module;
+    of_module.trusted.numbers = given.numbers;
+    if wants_shapes(&of_module) {
+        return made_text(alloc, of_module, Some(given.shapes));
+    }
+    drop(given.shapes);
+    made_text(alloc, of_module, None)
+}
+
+/// Makes certificates of a module with the shapes and the numbers of layouts that a certificate's text has, of which nothing else is read.
+/// Nothing where they are not all there.
 pub(crate) fn made_beside(
     alloc: Global,
     of_module: Module,
     certificate: &[u8],
 ) -> Result<Option<MadeText>, AllocError> {
-    if !wants_shapes(&of_module) {
+    let shaped = wants_shapes(&of_module);
+    let text = shape_text(alloc, certificate, shaped)?;
+    if !shaped && text.len() == HEAD.len() {
         return made_text(alloc, of_module, None);
     }
-    let text = shape_text(alloc, certificate)?;
     match read_shapes(alloc, text.as_slice(), &of_module) {
-        Ok(shapes) => made_text(alloc, of_module, Some(shapes)),
+        Ok(given) => made_with(alloc, of_module, given),
         Err(_fault) => {
             drop(of_module);
             Ok(None)

@@ -244,7 +244,7 @@ fn with_code(
     }
 }
 
-/// Certificates that are made of a module that was refused with others, with the shapes of these.
+/// Certificates that are made of a module that was refused with others, with the shapes and the numbers of these.
 fn made_anew(alloc: Global, refused: NotAccepted) -> Result<Option<MadeText>, AllocError> {
     let NotAccepted {
         of_module,
@@ -257,7 +257,8 @@ fn made_anew(alloc: Global, refused: NotAccepted) -> Result<Option<MadeText>, Al
         foreign,
     } = certs;
     drop(sections);
-    drop(foreign);
+    let mut of_module = of_module;
+    of_module.trusted = foreign;
     made_text(alloc, of_module, shapes)
 }
 

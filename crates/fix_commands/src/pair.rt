@@ -26,7 +26,11 @@ pub(crate) fn files_of<'a>(of_module: &'a [u8], certificate: &'a [u8], wide: boo
         bytes: Some(of_module),
     };
     Files {
-        of_module: Some(ModuleFile { file, wide }),
+        of_module: Some(ModuleFile {
+            file,
+            wide,
+            keeps: false,
+        }),
         certificate: Some(File {
             path: "",
             bytes: Some(certificate),

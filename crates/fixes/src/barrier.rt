@@ -7,7 +7,7 @@ use facts::Facts;
 use ir_tokens::{TEXT_LIMIT, read_tokens};
 use layout::Program;
 use messages::{Change, NamedText, Pen};
-use scenes::{Scene, Source};
+use scenes::{FunctionPlaces, Scene, Source};
 use shadow_stack::slots_of;
 use std::alloc::{AllocError, Global};
 
@@ -19,9 +19,13 @@ fn changes_by_facts<'a>(
     facts: &'a Facts,
     refusal: Refusal,
 ) -> Result<Vec<Change>, AllocError> {
+    let mut places = FunctionPlaces::none();
+    let of_module = context.module();
+    places.renew(pen.alloc, &source, of_module, refusal.func)?;
     let scene = Scene {
         pen,
         source,
+        places: Some(&places),
         certificate: NamedText {
             path: "",
             text: &[],
@@ -30,7 +34,9 @@ fn changes_by_facts<'a>(
         facts,
         refusal,
     };
-    store_changes(&scene)
+    let changes = store_changes(&scene);
+    drop(places);
+    changes
 }
 
 /// The changes of a refused store, by the tokens of the module.

@@ -6,6 +6,7 @@ use Rattle.ir_ast.specs.declared.ir_type.IrType.TheVariants as type
 use Rattle.ir_forms.specs.declared.input.Input.{Input}
 use Rattle.ir_forms.specs.Cursor.{sees, start}
 use Rattle.ir_forms.specs.Input.{limit, unexpected, advanced}
+use Rattle.ir_forms.specs.Outside.{outside, outside_name, outside_begin, outside_rest}
 use Rattle.ir_forms.specs.Written.{pointers, intern_pointer, part, firm, base, starred, no_type, again_within, again_over, no_parameters}
 
 pub pointers_none : (from n pointee : ℕ) (i : Input) → sees k.Star i.cursor ≡ false → (pointers from n pointee).read i ≡ Ok ((n, pointee), i)
@@ -22,6 +23,15 @@ pub pointers_more : (from n pointee : ℕ) (i : Input) → sees k.Star i.cursor 
 unfolding pointers
 pointers_more from zero pointee i e less = absurd (omega arith)
 pointers_more from (suc n) pointee i e less = let d : suc n - 1 ≡ n = omega arith in rw (d, e) refl
+
+pub outside_none : (n : ℕ) (i : Input) → n ≡ 0 → (outside n).read i ≡ outside_name.read i
+unfolding outside
+outside_none n i e = rw e refl
+
+pub outside_more : (n : ℕ) (i : Input) → 0 < n → (outside n).read i ≡ and_then (outside_begin.read i) (λ follows. (outside_rest (outside (n - 1)) follows).read)
+unfolding outside
+outside_more zero i less = absurd (omega arith)
+outside_more (suc n) i less = let e : suc n - 1 ≡ n = omega arith in rw e refl
 
 pub part_none : (n : ℕ) (i : Input) → n ≡ 0 → (part n).read i ≡ no_type.read i
 unfolding firm

@@ -1,22 +1,27 @@
 -- Calls.
-use Rattle.std.specs.Prelude.{ℕ, Some, None}
-use Rattle.grammar.specs.Grammar.{pure, refuse, look, ◌>>=◌, ◌>>◌}
+use Rattle.std.specs.Prelude.{ℕ, Bool, true, false, not, ◌&&◌, List, length, Option, Some, None}
+use Rattle.grammar.specs.Grammar.{pure, checked, refuse, look, ◌>>=◌, ◌>>◌}
+use Rattle.grammar.specs.Takes.{Takes, first_takes}
+use Rattle.grammar.specs.Many.{many}
 use Rattle.ir_tokens.specs.declared.token.Kind.{Kind}
 use Rattle.ir_tokens.specs.declared.token.Kind.TheVariants as k
+use Rattle.ir_ast.specs.declared.argument.Argument.{Argument}
 use Rattle.ir_ast.specs.declared.calls.Call.{Call}
 use Rattle.ir_ast.specs.declared.ir_type.IrType.TheVariants as type
 use Rattle.ir_ast.specs.declared.instr.Instr.{Instr}
 use Rattle.ir_ast.specs.declared.op.Op.{Op}
 use Rattle.ir_ast.specs.declared.op.Op.TheVariants as op
-use Rattle.ir_forms.specs.Cursor.{kind}
+use Rattle.ir_forms.specs.declared.input.Input.{Input}
+use Rattle.ir_forms.specs.declared.written.WrittenType.{WrittenType}
+use Rattle.ir_forms.specs.Cursor.{kind, sees, left_out}
 use Rattle.ir_forms.specs.Input.{Form, unread, skip, expect, sees_a}
 use Rattle.ir_forms.specs.Names.{set_type, callee, unnamed_value}
-use Rattle.ir_forms.specs.Written.{scalar, intern}
+use Rattle.ir_forms.specs.Written.{any_type, any_type_takes, result_type, intern}
 use Rattle.ir_forms.specs.Starts.{is_indirect_callee}
 use Rattle.ir_forms.specs.Decorations.{decorations}
 use Rattle.ir_forms.specs.Records.{trailed}
 use Rattle.ir_forms.specs.declared.decorating.Spot.TheVariants as spot
-use Rattle.ir_forms.specs.Lists.{arguments}
+use Rattle.ir_forms.specs.Lists.{separator, ends_parameters, dots, arguments, dotted_arguments}
 use Rattle.ir_forms.specs.Ops.{as_op}
 use Rattle.ir_forms.specs.StandIns.{stand_in, first_of, null_of}
 use Rattle.ir_forms.specs.declared.stand_ins.StandIn.{StandIn}
@@ -31,15 +36,71 @@ called_by _ = refuse (unread is_indirect_callee)
 unfoldable pub called : Form ℕ
 called = look (λ i. kind i.cursor) called_by
 
--- `@f(T V, ..)`
-unfoldable pub call_after : ℕ → Form Call
-call_after returned = do
+-- ---- the types of a function's parameters, before its name
+
+-- the type of a parameter with what follows it
+abbrev pub parameter_after : WrittenType → Form ℕ
+parameter_after w = separator k.CloseRound >> pure w.id
+
+-- the type of a parameter
+unfoldable pub parameter : Form ℕ
+parameter = any_type >>= parameter_after
+
+pub parameter_takes : Takes parameter
+unfolding parameter
+parameter_takes = first_takes any_type parameter_after any_type_takes
+
+-- how many parameters come before the dots, if there are any
+abbrev pub before_dots : ℕ → Bool → Option ℕ
+before_dots fixed true = Some fixed
+before_dots fixed false = None
+
+-- the types are not those of a pointer to a function
+abbrev pub no_star : Form (Unit {0})
+no_star = checked (λ i. not (sees k.Star i.cursor)) (λ i. left_out i.cursor)
+
+-- what follows the bracket before the types
+abbrev pub signature_after : Form (Option ℕ)
+signature_after = do
+  types ← many ends_parameters parameter parameter_takes
+  has_dots ← dots
+  expect k.CloseRound
+  no_star
+  pure (before_dots (length types) has_dots)
+
+-- the types of parameters are here, where the wide forms may stand
+unfoldable pub begins_signature : Input → Bool
+begins_signature i = i.wide && sees k.OpenRound i.cursor
+
+-- those types, or nothing
+abbrev pub signature_by : Bool → Form (Option ℕ)
+signature_by true = skip >> signature_after
+signature_by false = pure None
+
+-- `(T, .., ...)`, if it is here: how many parameters the function has before its dots, if it has dots
+unfoldable pub signature : Form (Option ℕ)
+signature = look begins_signature signature_by
+
+-- ---- a call after the type of its result
+
+-- the arguments of a function that has this many parameters before its dots, or no dots
+abbrev pub arguments_by : Option ℕ → Form (List Argument)
+arguments_by None = arguments
+arguments_by (Some fixed) = dotted_arguments fixed
+
+-- the function and its arguments
+abbrev pub call_parts : (returned : ℕ) → Option ℕ → Form Call
+call_parts returned fixed = do
   f ← called
   expect k.OpenRound
-  xs ← arguments
+  xs ← arguments_by fixed
   expect k.CloseRound
   decorations spot.Call
   pure (record { returned = returned; callee = f; arguments = xs })
+
+-- `@f(T V, ..)`, perhaps with the types of the parameters before it
+unfoldable pub call_after : ℕ → Form Call
+call_after returned = signature >>= call_parts returned
 
 -- `@f(T V, ..)` after the type of its result, which is that of its value
 abbrev pub call_of : (value returned : ℕ) → Form Call
@@ -51,7 +112,7 @@ call_of value returned = do
 -- `T @f(T V, ..)` after the word, whose value is a T
 abbrev pub typed_call : ℕ → Form Call
 typed_call value = do
-  returned ← scalar
+  returned ← result_type
   call_of value returned.id
 
 -- a call after the type of its result, or what stands in its place
@@ -63,7 +124,7 @@ named_call_by value returned Null = as_op op.Cast (null_of value returned)
 -- a call after its word, whose value has a name
 abbrev pub named_call : ℕ → Form Op
 named_call value = do
-  returned ← scalar
+  returned ← result_type
   look stand_in (named_call_by value returned.id)
 
 -- `call T @f(T V, ..)`, whose value has a name

@@ -51,6 +51,7 @@ start_of place = record {
   declares = [];
   functions = [];
   wide = false;
+  lost = None;
 }
 
 -- ---- faults at the next token

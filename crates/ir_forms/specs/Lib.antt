@@ -8,10 +8,11 @@ pub mod Intrinsics
 pub mod Input
 pub mod Names
 pub mod Written
-pub mod Operand
 pub mod ManyWith
 pub mod Starts
 pub mod Decorations
+pub mod Outside
+pub mod Operand
 pub mod Lists
 pub mod Records
 pub mod Sites

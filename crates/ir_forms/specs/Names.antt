@@ -1,11 +1,12 @@
 -- Names: where they are defined, and where they are used. One that is used may be defined further on.
-use Rattle.std.specs.Prelude.{◌≡◌, ◌≢◌, ℕ, ◌+◌, ◌≤◌, Bool, true, false, not, nat_lt, List, [], ◌∷◌, ◌++◌, ◌==◌, length, Option, Some, None, slice_get, option_and_then, option_map, find, refl}
+use Rattle.std.specs.Prelude.{◌≡◌, ◌≢◌, ℕ, ◌+◌, ◌≤◌, Bool, true, false, not, ◌&&◌, ◌||◌, nat_lt, List, [], ◌∷◌, ◌++◌, ◌==◌, length, Option, Some, None, slice_get, is_none, option_and_then, option_map, find, refl}
 use Rattle.std.proofs.Common.{arith, ap, sym, ◌∙◌}
 use Rattle.grammar.specs.Grammar.{step, checked, refuse, look, ◌>>◌}
 use Rattle.grammar.specs.Takes.{TakesWhere, Stays, stays_takes}
 use Rattle.ir_tokens.specs.declared.token.Kind.{Kind}
 use Rattle.ir_tokens.specs.declared.token.Kind.TheVariants as k
 use Rattle.ir_ast.specs.Names.{place_of, number_of}
+use Rattle.ir_ast.specs.RuntimeNames.{runtime_of}
 use Rattle.ir_ast.specs.declared.items_of_module.SymbolSort.{SymbolSort}
 use Rattle.ir_ast.specs.declared.items_of_module.SymbolSort.TheVariants as symbol
 use Rattle.ir_ast.specs.declared.function.LocalSort.{LocalSort}
@@ -198,13 +199,26 @@ callee = not_left_out >> used_symbol true
 abbrev pub sort_of_symbol : Input → Option SymbolSort
 sort_of_symbol i = option_and_then (slice_get i.symbols.sorts) (place_of (spelled i.cursor) i.symbols.names)
 
--- functions are no operands
-abbrev pub no_function : Form (Unit {0})
-no_function = checked (λ i. not (is_function (sort_of_symbol i))) (λ i. left_out i.cursor)
+-- the name is one that is declared, and no more
+abbrev pub is_declared : Option SymbolSort → Bool
+is_declared (Some (symbol.Declared d)) = true
+is_declared _ = false
 
--- the name of a global as an operand
+-- a name that means this is that of something outside: it is only declared, and is no function of the runtime
+abbrev pub is_outside : Option SymbolSort → (name : List ℕ) → Bool
+is_outside sort name = is_declared sort && is_none (runtime_of name)
+
+-- a name that means this so far may be an operand: it is that of no function, or of something outside where the wide forms may stand
+abbrev pub may_be_operand : (wide : Bool) → Option SymbolSort → (name : List ℕ) → Bool
+may_be_operand wide sort name = not (is_function sort) || (is_outside sort name && wide)
+
+-- the name that is here may be an operand; otherwise it is left out
+abbrev pub is_operand : Form (Unit {0})
+is_operand = checked (λ i. may_be_operand i.wide (sort_of_symbol i) (spelled i.cursor)) (λ i. left_out i.cursor)
+
+-- the name of a global, or of something outside, as an operand
 unfoldable pub used_global : Form ℕ
-used_global = checked (λ i. not (is_intrinsic (spelled i.cursor))) (λ i. left_out i.cursor) >> no_function >> used_symbol false
+used_global = checked (λ i. not (is_intrinsic (spelled i.cursor))) (λ i. left_out i.cursor) >> is_operand >> used_symbol false
 
 -- ---- local names
 

@@ -21,6 +21,7 @@ use Rattle.ir_forms.specs.declared.written.WrittenType.{WrittenType}
 use Rattle.ir_forms.specs.declared.written.Word.{Word}
 use Rattle.ir_forms.specs.declared.written.Word.TheVariants as sort
 use Rattle.ir_forms.specs.Written.{pointer_type}
+use Rattle.ir_forms.specs.Outside.{lost_here, outside}
 
 -- constant expressions, vectors and packed structs
 abbrev pub begins_unread_operand : Kind → Bool
@@ -182,12 +183,22 @@ cast_after = do
 unfoldable pub cast : Form Operand
 cast = skip >> cast_after
 
+-- a constant getelementptr of an address outside, whose offset is lost, where the wide forms may stand; another is left out
+abbrev pub element_by : Word → Bool → Form Operand
+element_by sort.Pointer true = lost_here >> outside 3 >>= λ symbol. pure (o.Global symbol)
+element_by w _ = constant w >>= λ x. pure (o.Constant x)
+
+-- a constant getelementptr as a word of this sort
+unfoldable pub element_operand : Word → Form Operand
+element_operand w = look (λ i. i.wide) (element_by w)
+
 -- an operand, by the token with which it begins
 abbrev pub operand_by : Word → Kind → Form Operand
 operand_by w k.LocalName = used_value >>= λ value. pure (o.Local value)
 operand_by w k.LocalNumber = used_value >>= λ value. pure (o.Local value)
 operand_by w k.GlobalName = used_global >>= λ symbol. pure (o.Global symbol)
 operand_by w k.Bitcast = cast
+operand_by w k.Getelementptr = element_operand w
 operand_by w _ = constant w >>= λ x. pure (o.Constant x)
 
 -- an operand as a word of this sort

@@ -462,6 +462,29 @@ integer_scalar = scalar >>= λ w. checked (λ _. not (is_float w)) unexpected >>
 unfoldable pub pointer_type : Form WrittenType
 pointer_type = any_type >>= λ w. checked (λ _. is_pointer w) unexpected >> pure w
 
+-- ---- the type of a call's result
+
+-- a type with the stars after it, which is written from this place on; a round bracket may follow
+abbrev pub result_stars : ℕ → WrittenType → Form WrittenType
+result_stars start p = stars_after start p p.base >>= λ found. pure (with_stars p found)
+
+-- a type before the types of a function's parameters, or without them
+unfoldable pub type_before : Form WrittenType
+type_before = look (λ i. start i.cursor) (λ start. base 63 (firm 63) >>= result_stars start)
+
+-- such a type that a word holds, or else this fault
+abbrev pub word_before : Fault → Form WrittenType
+word_before fault = type_before >>= λ w. then_allowed is_scalar w fault
+
+-- the type of a call's result, where the wide forms may stand or not
+abbrev pub result_by : (wide : Bool) → Form WrittenType
+result_by true = look (λ i. left_out i.cursor) word_before
+result_by false = scalar
+
+-- the type of a call's result; where the wide forms may stand, the types of the function's parameters may follow it
+unfoldable pub result_type : Form WrittenType
+result_type = look (λ i. i.wide) result_by
+
 -- ---- a second mention of a type
 
 -- the next token begins a type, as a token of this kind does

@@ -6,13 +6,14 @@ ghost use Rattle.ir_forms.specs.Calls as form;
 use crate::decorating::{Spot, decorations};
 use crate::fault::Fault;
 use crate::input::Input;
-use crate::listed::many;
-use crate::lists::Arguments;
+use crate::listed::{Listed, many};
+use crate::lists::{Arguments, dots, dotted_arguments, ends_parameters, separator};
 use crate::records::trailed;
 use crate::stand_ins::{StandIn, first_of, null_of, stand_in};
 use crate::starts::is_indirect_callee;
-use ir_ast::{Call, Instr, IrType, Op, SymbolId, TypeId, ValueId};
+use ir_ast::{Argument, Call, Instr, IrType, Op, SymbolId, TypeId, ValueId};
 use ir_tokens::Kind;
+use items::Items;
 use std::alloc::Global;
 
 /// The function that is called.
@@ -26,14 +27,91 @@ fn called(alloc: Global, input: &mut Input<'_>) -> Result<SymbolId, Fault>
     }
 }
 
+// ---- the types of a function's parameters, before its name
+
+/// The types of a function's parameters.
+struct ParameterTypes;
+
+impl Listed for ParameterTypes {
+    ghost use Rattle.ir_forms.specs.Lists.{ends_parameters};
+    ghost use Rattle.ir_forms.specs.Calls.{parameter};
+
+    type Item = TypeId;
+
+    ghost form = { parameter.read };
+
+    ghost ends = { ends_parameters };
+
+    fn ends(input: &Input<'_>) -> bool {
+        ends_parameters(input)
+    }
+
+    #[tactic(auto, unfolding(crate::specs::Calls::parameter))]
+    fn read(alloc: Global, input: &mut Input<'_>) -> Result<TypeId, Fault> {
+        let written = input.any_type(alloc)?.id;
+        separator(input, Kind::CloseRound)?;
+        Ok(written)
+    }
+}
+
+/// How many parameters come before the dots, if there are any.
+fn before_dots(fixed: usize, has_dots: bool) -> Option<usize>
+    ensures { result ≡ form.before_dots fixed has_dots }
+{
+    if has_dots { Some(fixed) } else { None }
+}
+
+/// What follows the bracket before the types of parameters.
+fn signature_after(alloc: Global, input: &mut Input<'_>) -> Result<Option<usize>, Fault>
+    ensures { Reads (form.signature_after.read input.old) result input.new }
+{
+    let types = many::<ParameterTypes>(alloc, input)?;
+    let has_dots = dots(input);
+    input.expect(Kind::CloseRound)?;
+    if input.sees(Kind::Star) {
+        return Err(input.left_out());
+    }
+    Ok(before_dots(types.len(), has_dots))
+}
+
+/// The types of the parameters, if they are here. Returns how many the function has before its dots, if it has dots.
+#[tactic(auto, unfolding(crate::specs::Calls::signature, crate::specs::Calls::begins_signature))]
+fn signature(alloc: Global, input: &mut Input<'_>) -> Result<Option<usize>, Fault>
+    ensures { Reads (form.signature.read input.old) result input.new }
+{
+    if !input.wide || !input.sees(Kind::OpenRound) {
+        return Ok(None);
+    }
+    input.skip();
+    signature_after(alloc, input)
+}
+
+// ---- a call after the type of its result
+
+/// The arguments of a function that has this many parameters before its dots, or no dots.
+#[tactic(auto, unfolding(crate::specs::Lists::arguments))]
+fn arguments_by(
+    alloc: Global,
+    input: &mut Input<'_>,
+    fixed: Option<usize>,
+) -> Result<Items<Argument>, Fault>
+    ensures { Reads ((form.arguments_by fixed).read input.old) result input.new }
+{
+    match fixed {
+        None => many::<Arguments>(alloc, input),
+        Some(fixed) => dotted_arguments(alloc, input, fixed),
+    }
+}
+
 /// A call after the type of its result.
-#[tactic(auto, unfolding(crate::specs::Calls::call_after, crate::specs::Lists::arguments))]
+#[tactic(auto, unfolding(crate::specs::Calls::call_after))]
 fn call_after(alloc: Global, input: &mut Input<'_>, returned: TypeId) -> Result<Call, Fault>
     ensures { Reads ((form.call_after returned).read input.old) result input.new }
 {
+    let fixed = signature(alloc, input)?;
     let callee = called(alloc, input)?;
     input.expect(Kind::OpenRound)?;
-    let arguments = many::<Arguments>(alloc, input)?;
+    let arguments = arguments_by(alloc, input, fixed)?;
     input.expect(Kind::CloseRound)?;
     decorations(alloc, input, Spot::Call)?;
     Ok(Call {
@@ -61,7 +139,7 @@ fn call_of(
 fn typed_call(alloc: Global, input: &mut Input<'_>, value: ValueId) -> Result<Call, Fault>
     ensures { Reads ((form.typed_call value).read input.old) result input.new }
 {
-    let returned = input.scalar(alloc)?.id;
+    let returned = input.result_type(alloc)?.id;
     call_of(alloc, input, value, returned)
 }
 
@@ -69,7 +147,7 @@ fn typed_call(alloc: Global, input: &mut Input<'_>, value: ValueId) -> Result<Ca
 fn named_call(alloc: Global, input: &mut Input<'_>, value: ValueId) -> Result<Op, Fault>
     ensures { Reads ((form.named_call value).read input.old) result input.new }
 {
-    let returned = input.scalar(alloc)?.id;
+    let returned = input.result_type(alloc)?.id;
     match stand_in(input) {
         StandIn::Itself => Ok(Op::Call(call_of(alloc, input, value, returned)?)),
         StandIn::First => Ok(Op::Cast(first_of(alloc, input, value)?)),

@@ -137,7 +137,7 @@ fn is_local(kind: Kind) -> bool
 }
 
 /// Whether a phi begins here.
-fn begins_phi(input: &Input<'_>) -> bool
+pub fn begins_phi(input: &Input<'_>) -> bool
     ensures { result ≡ form.begins_phi input.now }
 {
     is_local(input.kind())
@@ -158,7 +158,7 @@ fn phi_value(alloc: Global, input: &mut Input<'_>) -> Result<ValueId, Fault>
 }
 
 #[tactic(auto, unfolding(crate::specs::Choices::phi))]
-fn phi(alloc: Global, input: &mut Input<'_>) -> Result<Phi, Fault>
+pub fn phi(alloc: Global, input: &mut Input<'_>) -> Result<Phi, Fault>
     ensures { Reads (form.phi.read input.old) result input.new }
 {
     let value = phi_value(alloc, input)?;

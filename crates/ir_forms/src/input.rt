@@ -42,6 +42,8 @@ pub struct Input<'a> {
     pub functions: Items<Function>,
     /// Whether the wide forms may stand in the text.
     pub wide: bool,
+    /// The first form that compiled code needs and the module does not have, as a fault at it.
+    pub lost: Option<Fault>,
 }
 
 impl<'a> Input<'a> {
@@ -66,6 +68,7 @@ impl<'a> Input<'a> {
             declares: Items::new(alloc),
             functions: Items::new(alloc),
             wide: false,
+            lost: None,
         }
     }
 

@@ -11,7 +11,7 @@ use crate::intrinsics::{is_intrinsic, is_left_out};
 use crate::table::Table;
 use crate::uses::{LocalUse, StructUse, SymbolUse, Wanted};
 use ir_ast::{
-    BlockId, LocalSort, StructNameId, SymbolId, SymbolSort, TypeId, ValueId, key_of_number,
+    BlockId, LocalSort, Runtime, StructNameId, SymbolId, SymbolSort, TypeId, ValueId, key_of_number,
 };
 use ir_tokens::Kind;
 use items::Items;
@@ -62,10 +62,29 @@ fn is_symbol(sort: Option<SymbolSort>) -> bool
     )
 }
 
-fn is_function(sort: Option<SymbolSort>) -> bool
-    ensures { result ≡ form.is_function sort }
+/// Whether a name is one that is declared, and no more.
+fn is_declared(sort: Option<SymbolSort>) -> bool
+    ensures { result ≡ form.is_declared sort }
 {
-    matches!(sort, Some(SymbolSort::Declared(_) | SymbolSort::Defined(_)))
+    matches!(sort, Some(SymbolSort::Declared(_)))
+}
+
+/// Whether a name that means this is that of something outside: it is only declared, and is no function of the runtime.
+pub fn is_outside(sort: Option<SymbolSort>, name: &[u8]) -> bool
+    ensures { result ≡ form.is_outside sort name.now }
+{
+    is_declared(sort) && Runtime::of(name).is_none()
+}
+
+/// Whether a name that means this so far may be an operand.
+fn may_be_operand(wide: bool, sort: Option<SymbolSort>, name: &[u8]) -> bool
+    ensures { result ≡ form.may_be_operand wide sort name.now }
+{
+    match sort {
+        Some(SymbolSort::Declared(_)) => Runtime::of(name).is_none() && wide,
+        Some(SymbolSort::Defined(_)) => false,
+        _ => true,
+    }
 }
 
 fn is_local(sort: Option<LocalSort>) -> bool
@@ -169,7 +188,21 @@ impl<'a> Input<'a> {
         self.used_symbol(alloc, true)
     }
 
-    /// The name of a global as an operand.
+    /// Whether the name that is here may be an operand.
+    fn is_operand(&self, alloc: Global) -> Result<bool, AllocError>
+        ensures { IfOk result (λ is. is ≡ form.may_be_operand self.now.wide (form.sort_of_symbol self.now) (place.spelled self.now.cursor)) }
+    {
+        let sort = self.symbol_sort(alloc)?;
+        match self.cursor.borrowed() {
+            Some(name) => Ok(may_be_operand(self.wide, sort, name)),
+            None => {
+                let name = self.cursor.spelled(alloc)?;
+                Ok(may_be_operand(self.wide, sort, name.as_slice()))
+            }
+        }
+    }
+
+    /// The name of a global, or of something outside, as an operand.
     #[tactic(auto, unfolding(crate::specs::Names::used_global))]
     pub fn used_global(&mut self, alloc: Global) -> Result<SymbolId, Fault>
         ensures { Reads (form.used_global.read self.old) result self.new }
@@ -177,14 +210,14 @@ impl<'a> Input<'a> {
         if self.names_intrinsic(alloc)? {
             return Err(self.left_out());
         }
-        if is_function(self.symbol_sort(alloc)?) {
+        if !self.is_operand(alloc)? {
             return Err(self.left_out());
         }
         self.used_symbol(alloc, false)
     }
 
     /// What the next token's global name means so far.
-    fn symbol_sort(&self, alloc: Global) -> Result<Option<SymbolSort>, AllocError>
+    pub fn symbol_sort(&self, alloc: Global) -> Result<Option<SymbolSort>, AllocError>
         ensures { IfOk result (λ sort. sort ≡ form.sort_of_symbol self.now) }
     {
         match self.symbols.find_next(alloc, &self.cursor)? {

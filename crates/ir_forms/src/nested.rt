@@ -88,6 +88,22 @@ impl<'a> Input<'a> {
         })
     }
 
+    /// The type of a call's result before the types of the function's parameters, or without them.
+    #[tactic(auto, unfolding(crate::specs::Written::type_before))]
+    pub fn type_before(&mut self, alloc: Global) -> Result<WrittenType, Fault>
+        ensures { Reads (form.type_before.read self.old) result self.new }
+    {
+        let start = self.cursor.start();
+        let part = self.base(alloc, ROOM)?;
+        let (room, id) = self.stars_after(start, &part)?;
+        Ok(WrittenType {
+            base: part.base,
+            stars: part.room.saturating_sub(room),
+            id,
+            room,
+        })
+    }
+
     /// No function type.
     pub fn no_parameters(&self) -> Result<(), Fault>
         ensures { Reads (form.no_parameters.read self.now) result self.now }

@@ -220,6 +220,20 @@ impl<'a> Input<'a> {
         Ok(Operand::CastGlobal { from, global, to })
     }
 
+    /// A constant getelementptr of an address outside, whose offset is lost, where the wide forms may stand.
+    #[tactic(auto, unfolding(crate::specs::Operand::element_operand))]
+    fn element_operand(&mut self, alloc: Global, word: Word) -> Result<Operand, Fault>
+        ensures { Reads ((form.element_operand word).read self.old) result self.new }
+    {
+        match word {
+            Word::Pointer if self.wide => {
+                self.lose();
+                Ok(Operand::Global(self.outside(alloc, 3)?))
+            }
+            _ => Ok(Operand::Constant(self.constant(word)?)),
+        }
+    }
+
     /// An operand as a word of this sort.
     #[tactic(auto, unfolding(crate::specs::Operand::operand))]
     pub fn operand(&mut self, alloc: Global, word: Word) -> Result<Operand, Fault>
@@ -229,6 +243,7 @@ impl<'a> Input<'a> {
             Kind::LocalName | Kind::LocalNumber => Ok(Operand::Local(self.used_value(alloc)?)),
             Kind::GlobalName => Ok(Operand::Global(self.used_global(alloc)?)),
             Kind::Bitcast => self.cast(alloc),
+            Kind::Getelementptr => self.element_operand(alloc, word),
             _ => Ok(Operand::Constant(self.constant(word)?)),
         }
     }

@@ -273,6 +273,20 @@ impl<'a> Input<'a> {
         self.scalar_within(alloc, ROOM)
     }
 
+    /// The type of a call's result. Where the wide forms may stand, the types of the function's parameters may follow it.
+    #[tactic(auto, unfolding(crate::specs::Written::result_type))]
+    pub fn result_type(&mut self, alloc: Global) -> Result<WrittenType, Fault>
+        ensures { Reads (form.result_type.read self.old) result self.new }
+    {
+        if !self.wide {
+            return self.scalar(alloc);
+        }
+        let fault = self.left_out();
+        let written = self.type_before(alloc)?;
+        self.allow(is_scalar(&written), fault)?;
+        Ok(written)
+    }
+
     /// A type of floating point numbers.
     #[tactic(auto, unfolding(crate::specs::Written::float_scalar))]
     pub fn float_scalar(&mut self, alloc: Global) -> Result<WrittenType, Fault>

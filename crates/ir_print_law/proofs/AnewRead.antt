@@ -1,5 +1,5 @@
 -- One function that is read in the tables of a module is good in that module with the types that its text adds, and no name is new.
-use Rattle.std.proofs.Common.{◌≡◌, ℕ, ◌<◌, ◌≤◌, Bool, true, List, [], ◌∷◌, ◌++◌, length, slice_get, unwrap_or, Option, None, Some, refl, ap, sym, subst, ◌∙◌, arith, inl, inr}
+use Rattle.std.proofs.Common.{◌≡◌, ℕ, ◌<◌, ◌≤◌, Bool, true, List, [], ◌∷◌, ◌++◌, length, slice_get, unwrap_or, Option, None, Some, refl, ap, ap₂, sym, subst, ◌∙◌, arith, inl, inr}
 use Rattle.std.proofs.lemmas.Option.{slice_get-get_or}
 use Rattle.std.proofs.lemmas.Slice.Eq.{bytes_eq-Decides}
 use Rattle.lemmas.specs.Lists.{IsIn}
@@ -24,7 +24,7 @@ use Rattle.ir_forms.specs.Input.{unexpected}
 use Rattle.ir_forms.specs.Names.{symbol_number, with_symbol, new_symbol, first_missing}
 use Rattle.ir_text.specs.Anew.{start_anew, is_named, named_head, ends, anew, with_sorts, late_anew}
 use Rattle.ir_text.specs.ItemsOfText.{function_name_by, function_name, open_body, with_function}
-use Rattle.ir_text.specs.Late.{is_struct, is_right, wrong_symbol, wrong_struct}
+use Rattle.ir_text.specs.Late.{is_struct, may_use, wrong_symbol, wrong_struct}
 use Rattle.copies.specs.Tables.{tables_of}
 use Rattle.name_text.specs.Readings.{AreBytes}
 use Rattle.ir_print.specs.Names.{name_at}
@@ -41,6 +41,7 @@ use Rattle.ir_print_law.proofs.ModuleState.{Kept, kept_of, Made, made_of, betwee
 use Rattle.ir_print_law.proofs.NumberTokens.{lexed_spell}
 use Rattle.ir_print_law.proofs.Passes.{skip_passes, check_passes}
 use Rattle.ir_print_law.proofs.Tables.{Begins, AreOrdered, begins_itself, place_stays, place_there}
+use Rattle.ir_print_law.proofs.Used.{used_known}
 use Rattle.ir_print_law.proofs.Uses.{struct_right, symbol_right, nothing_late}
 use Rattle.ir_print_law.proofs.WithinRead.{IsInnerOf, inner_keeps}
 
@@ -69,9 +70,8 @@ pub record IsRead (m : Module) (old f : Function) (o : Input) : Type 0 where
 module _ (m : Module) (names : HasModuleNames m) where
   -- ---- the end of reading
 
-  symbol_past : (is_call : Bool) (x : Option SymbolSort) (n : ℕ) → slice_get m.sorts n ≡ x → is_right is_call x ≡ true → length m.symbols ≤ n → ⊥
-  symbol_past is_call None n same is past = absurd cc
-  symbol_past is_call (Some sort) n same is past = let less : n < length m.symbols = names.sorts n sort same in omega (arith, less, past)
+  symbol_past : (n : ℕ) (sort : SymbolSort) → slice_get m.sorts n ≡ Some sort → length m.symbols ≤ n → ⊥
+  symbol_past n sort same past = let less : n < length m.symbols = names.sorts n sort same in omega (arith, less, past)
 
   struct_past : (o : Input) → Anew m o → (x : Option (Option ℕ)) (n : ℕ) → slice_get o.struct_names.sorts n ≡ x → is_struct x ≡ true → length m.struct_names ≤ n → ⊥
   struct_past o h None n same is past = absurd cc
@@ -100,8 +100,8 @@ module _ (m : Module) (names : HasModuleNames m) where
     late : (o.missing ≡ None) × (wrong_symbol (with_sorts m.sorts o) ≡ None) × (wrong_struct (with_sorts m.sorts o) ≡ None)
     late = nothing_late (with_sorts m.sorts o) none
 
-    symbol_uses : (u : SymbolUse) → IsIn u o.symbol_uses → is_right u.is_call (slice_get m.sorts u.symbol) ≡ true
-    symbol_uses u there = symbol_right (with_sorts m.sorts o) late.1 u there
+    used : (u : SymbolUse) → IsIn u o.symbol_uses → may_use o.wide u.is_call (slice_get m.sorts u.symbol) (name_at o.symbols.names u.symbol) ≡ true
+    used u there = symbol_right (with_sorts m.sorts o) late.1 u there
 
     struct_uses : (u : StructUse) → IsIn u o.struct_uses → is_struct (slice_get o.struct_names.sorts u.name) ≡ true
     struct_uses u there = struct_right (with_sorts m.sorts o) late.2 u there
@@ -109,8 +109,14 @@ module _ (m : Module) (names : HasModuleNames m) where
     symbols_are : o.symbols.names ≡ m.symbols
     symbols_are = elim h.symbols [
       | inl e ↦ e
-      | inr p ↦ absurd (symbol_past p.0.is_call (slice_get m.sorts p.0.symbol) p.0.symbol refl (symbol_uses p.0 p.1) p.2)
+      | inr p ↦
+          let x = used_known o.wide p.0.is_call (slice_get m.sorts p.0.symbol) (name_at o.symbols.names p.0.symbol) (used p.0 p.1) in
+          absurd (symbol_past p.0.symbol x.0 x.1 p.2)
     ]
+
+    symbol_uses : (u : SymbolUse) → IsIn u o.symbol_uses → may_use m.wide u.is_call (slice_get m.sorts u.symbol) (name_at m.symbols u.symbol) ≡ true
+    symbol_uses u there =
+        ap₂ (λ (wide : Bool) (l : List Text). may_use wide u.is_call (slice_get m.sorts u.symbol) (name_at l u.symbol)) (sym h.forms) (sym symbols_are) ∙ used u there
 
     structs_are : (o.struct_names.names ≡ m.struct_names) × (o.struct_names.sorts ≡ m.struct_of)
     structs_are = elim h.structs [

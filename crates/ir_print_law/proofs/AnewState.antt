@@ -1,7 +1,9 @@
 -- What is known of a state while one function is read in the tables of its module, and of where that reading ends.
 use Rattle.std.proofs.Common.{◌≡◌, ℕ, ◌≤◌, Bool, true, false, List, [], ◌∷◌, ◌++◌, length, map, slice_get, if◌then◌else◌, is_some, unwrap_or, Option, None, Some, zero, suc, refl, ap, sym, subst, ◌∙◌, arith, inl, inr, ◌⊎◌}
+use Rattle.std.specs.Prelude.{is_none}
 use Rattle.lemmas.specs.Lists.{in_first, in_second, last_in, IsIn, get_either}
 use Rattle.ir_ast.specs.Names.{place_of, number_of, numbered}
+use Rattle.ir_ast.specs.RuntimeNames.{runtime_of}
 use Rattle.ir_ast.specs.Types.{numbered_type}
 use Rattle.ir_ast.specs.declared.function.Function.{Function}
 use Rattle.ir_ast.specs.declared.ir_type.IrType.{IrType}
@@ -12,26 +14,28 @@ use Rattle.ir_ast.specs.declared.items_of_module.SymbolSort.{SymbolSort}
 use Rattle.ir_ast.specs.declared.items_of_module.SymbolSort.TheVariants as symbol
 use Rattle.ir_ast.specs.declared.module.Module.{Module}
 use Rattle.ir_tokens.specs.Bytes.{Text}
+use Rattle.ir_forms.specs.declared.fault.Fault.{Fault}
 use Rattle.ir_forms.specs.Cursor.{spelled, start, size}
 use Rattle.ir_forms.specs.Table.{sorts_with}
 use Rattle.ir_forms.specs.declared.uses.StructUse.{StructUse}
 use Rattle.ir_forms.specs.declared.uses.SymbolUse.{SymbolUse}
 use Rattle.ir_forms.specs.declared.input.Input.{Input}
 use Rattle.ir_forms.specs.Input.{advanced}
-use Rattle.ir_forms.specs.Names.{struct_number, with_struct_use, symbol_number, with_symbol_use}
+use Rattle.ir_forms.specs.Names.{struct_number, with_struct_use, symbol_number, with_symbol_use, is_declared}
 use Rattle.ir_forms.specs.Written.{with_type_interned}
-use Rattle.ir_text.specs.Late.{is_struct, is_right}
+use Rattle.ir_text.specs.Late.{is_struct, is_right, may_use}
 use Rattle.name_text.specs.Readings.{AreBytes}
 use Rattle.ir_print.specs.Names.{name_at}
-use Rattle.ir_print_law.specs.Definitions.{defined_structs, declared_functions, defined_functions, used_symbols}
+use Rattle.ir_print_law.specs.Definitions.{defined_structs, declared_functions, defined_functions, IsUsed}
 use Rattle.ir_print_law.specs.ModuleNames.{HasModuleNames}
 use Rattle.ir_print_law.proofs.LongerTypes.{with_types}
 use Rattle.ir_print_law.proofs.ModuleState.{Kept, kept_of, Made, made_of, next_bytes, next_spells, number_spells, struct_name_begins, symbol_begins}
 use Rattle.ir_print_law.proofs.NameBytes.{spelled_bytes}
 use Rattle.ir_print_law.proofs.NumberTokens.{AllSpell}
 use Rattle.ir_print_law.proofs.Outside.{Outside}
-use Rattle.ir_print_law.proofs.Reading.{Reading}
+use Rattle.ir_print_law.proofs.Reading.{with_lost, Reading}
 use Rattle.ir_print_law.proofs.OneKind.{IsNext, type_ordered}
+use Rattle.ir_print_law.proofs.Used.{used_so}
 use Rattle.ir_print_law.proofs.Tables.{Begins, AreOrdered, begins_further, type_begins, name_there, stays}
 
 -- the names of globals and functions are those of the module, or one is used that the module does not have
@@ -64,7 +68,7 @@ pub record Arrives (m : Module) (types : List IrType) (i : Input) : Type 0 where
   pub struct_names : Begins i.struct_names.names m.struct_names
   pub symbols : Begins i.symbols.names m.symbols
   pub struct_uses : (u : StructUse) → IsIn u i.struct_uses → is_struct (slice_get m.struct_of u.name) ≡ true
-  pub symbol_uses : (u : SymbolUse) → IsIn u i.symbol_uses → is_right u.is_call (slice_get m.sorts u.symbol) ≡ true
+  pub symbol_uses : (u : SymbolUse) → IsIn u i.symbol_uses → may_use m.wide u.is_call (slice_get m.sorts u.symbol) (name_at m.symbols u.symbol) ≡ true
   pub missing : i.missing ≡ None
   pub ordered : AreOrdered types
   pub forms : i.wide ≡ m.wide
@@ -160,6 +164,17 @@ module _ (m : Module) where
     forms = h.forms;
   }
 
+  pub anew_lost : (i : Input) (lost : Option Fault) → Anew m i → Anew m (with_lost lost i)
+  anew_lost i lost h = record {
+    bytes = h.bytes;
+    spell = h.spell;
+    ordered = h.ordered;
+    symbols = h.symbols;
+    structs = h.structs;
+    layouts = h.layouts;
+    forms = h.forms;
+  }
+
   module _ (types : List IrType) where
     pub arrives_token : (i : Input) → Arrives m types (advanced i) → Arrives m types i
     arrives_token i b = record {
@@ -209,6 +224,18 @@ module _ (m : Module) where
       forms = b.forms;
     }
 
+    pub arrives_lost : (i : Input) (lost : Option Fault) → Arrives m types (with_lost lost i) → Arrives m types i
+    arrives_lost i lost b = record {
+      begins = b.begins;
+      struct_names = b.struct_names;
+      symbols = b.symbols;
+      struct_uses = b.struct_uses;
+      symbol_uses = b.symbol_uses;
+      missing = b.missing;
+      ordered = b.ordered;
+      forms = b.forms;
+    }
+
     -- ---- what a name is that is used
 
     named : {A : Type 0} (name_of : A → Text) (xs : List A) (place : ℕ) (x : A) (name : Text) → slice_get xs place ≡ Some x → name_of x ≡ name → IsIn name (map name_of xs)
@@ -232,10 +259,17 @@ module _ (m : Module) where
             named (λ (s : StructType). name_at m.struct_names s.name) m.structs layout x.0 (spelled i.cursor) x.1
             (ap (name_at m.struct_names) x.2 ∙ ap (λ (o : Option Text). unwrap_or o []) at)
 
-      pub symbol_is : (i : Input) (is_call : Bool) → Arrives m types (with_symbol_use is_call i) → IsIn (spelled i.cursor) (used_symbols m is_call)
-      symbol_is i is_call b = by is_call (slice_get m.sorts (symbol_number i)) refl (b.symbol_uses (symbol_use is_call i) (last_in (symbol_use is_call i) i.symbol_uses)) where
+      pub symbol_is : (i : Input) (is_call : Bool) → Arrives m types (with_symbol_use is_call i) → IsUsed m is_call (spelled i.cursor)
+      symbol_is i is_call b = elim (used_so m.wide is_call sort (name_at m.symbols (symbol_number i)) (b.symbol_uses (symbol_use is_call i) (last_in (symbol_use is_call i) i.symbol_uses))) [
+        | inl is ↦ by is_call sort refl is
+        | inr h ↦ subst (λ (c : Bool). IsUsed m c name) (sym h.0)
+            (inr (h.1.0, declared sort refl h.1.1, ap (λ (t : Text). is_none (runtime_of t)) (sym (its (symbol_number i) refl)) ∙ h.1.2))
+      ] where
         name : Text
         name = spelled i.cursor
+
+        sort : Option SymbolSort
+        sort = slice_get m.sorts (symbol_number i)
 
         at : slice_get m.symbols (symbol_number i) ≡ Some name
         at = stays (numbered name i.symbols.names) m.symbols (symbol_number i) name b.symbols (name_there name i.symbols.names)
@@ -243,17 +277,24 @@ module _ (m : Module) where
         its : (n : ℕ) → n ≡ symbol_number i → name_at m.symbols n ≡ name
         its n e = ap (name_at m.symbols) e ∙ ap (λ (o : Option Text). unwrap_or o []) at
 
-        by : (is_call : Bool) (x : Option SymbolSort) → slice_get m.sorts (symbol_number i) ≡ x → is_right is_call x ≡ true → IsIn name (used_symbols m is_call)
+        declared : (x : Option SymbolSort) → slice_get m.sorts (symbol_number i) ≡ x → is_declared x ≡ true → IsIn name (declared_functions m)
+        declared None same is = absurd cc
+        declared (Some symbol.Unknown) same is = absurd cc
+        declared (Some (symbol.Global g)) same is = absurd cc
+        declared (Some (symbol.Declared d)) same is =
+            let x = names.named_declares (symbol_number i) d same in
+            named (λ (d : Declare). name_at m.symbols d.symbol) m.declares d x.0 name x.1 (its x.0.symbol x.2)
+        declared (Some (symbol.Defined f)) same is = absurd cc
+
+        by : (is_call : Bool) (x : Option SymbolSort) → slice_get m.sorts (symbol_number i) ≡ x → is_right is_call x ≡ true → IsUsed m is_call name
         by is_call None same is = absurd cc
         by is_call (Some symbol.Unknown) same is = absurd cc
         by true (Some (symbol.Global g)) same is = absurd cc
         by false (Some (symbol.Global g)) same is =
             let x = names.named_globals (symbol_number i) g same in
-            named (λ (g : Global). name_at m.symbols g.symbol) m.globals g x.0 name x.1 (its x.0.symbol x.2)
+            inl (named (λ (g : Global). name_at m.symbols g.symbol) m.globals g x.0 name x.1 (its x.0.symbol x.2))
         by false (Some (symbol.Declared d)) same is = absurd cc
-        by true (Some (symbol.Declared d)) same is =
-            let x = names.named_declares (symbol_number i) d same in
-            in_first name (declared_functions m) (defined_functions m) (named (λ (d : Declare). name_at m.symbols d.symbol) m.declares d x.0 name x.1 (its x.0.symbol x.2))
+        by true (Some (symbol.Declared d)) same is = in_first name (declared_functions m) (defined_functions m) (declared (Some (symbol.Declared d)) same refl)
         by false (Some (symbol.Defined f)) same is = absurd cc
         by true (Some (symbol.Defined f)) same is =
             let x = names.named_functions (symbol_number i) f same in
@@ -280,6 +321,8 @@ module _ (m : Module) where
         on_symbol = λ i is_call f. (anew_symbol i is_call f.0, f.1);
         from_symbol = arrives_symbol;
         symbol_is = symbol_is;
+        on_lost = λ i lost f. (anew_lost i lost f.0, f.1);
+        from_lost = arrives_lost;
       }
 
       -- What is known outside of the function's names, where these items are made.

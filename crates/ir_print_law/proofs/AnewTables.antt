@@ -22,7 +22,7 @@ use Rattle.ir_forms.specs.declared.uses.LocalUse.{LocalUse}
 use Rattle.ir_forms.specs.declared.uses.StructUse.{StructUse}
 use Rattle.ir_forms.specs.declared.uses.SymbolUse.{SymbolUse}
 use Rattle.ir_forms.specs.Table.{mentioned, defined, sorts_with}
-use Rattle.ir_forms.specs.Names.{is_local, is_symbol, is_function}
+use Rattle.ir_forms.specs.Names.{is_local, is_symbol, is_function, is_declared}
 use Rattle.ir_print_law.proofs.Tables.{name_begins, place_stays, place_there}
 use Rattle.ir_print_law.specs.Standing.{sort_named}
 use Rattle.ir_print_law.proofs.Seats.{Own, Symbols, Structs, bare, placeless}
@@ -123,11 +123,11 @@ known_same xs ys n m e same = at_bare xs n ∙ ap (λ (l : List LocalSort). is_l
 -- ---- global names
 
 -- what a name means that comes into the table
-further_sort : (o : Option SymbolSort) (sorts : List SymbolSort) (n : ℕ) → slice_get (sorts ++ symbol.Unknown ∷ []) n ≡ o → length sorts ≤ n → (is_symbol o ≡ false) × (is_function o ≡ false)
-further_sort None sorts n e past = (refl, refl)
+further_sort : (o : Option SymbolSort) (sorts : List SymbolSort) (n : ℕ) → slice_get (sorts ++ symbol.Unknown ∷ []) n ≡ o → length sorts ≤ n → (is_symbol o ≡ false) × (is_function o ≡ false) × (is_declared o ≡ false)
+further_sort None sorts n e past = (refl, refl, refl)
 further_sort (Some x) sorts n e past = elim (get_either sorts symbol.Unknown n x e) [
   | inl h ↦ absurd (let less = slice_get_within sorts n x h in omega (arith, less, past))
-  | inr h ↦ subst (λ (y : SymbolSort). (is_symbol (Some y) ≡ false) × (is_function (Some y) ≡ false)) (sym h.1) (refl, refl)
+  | inr h ↦ subst (λ (y : SymbolSort). (is_symbol (Some y) ≡ false) × (is_function (Some y) ≡ false) × (is_declared (Some y) ≡ false)) (sym h.1) (refl, refl, refl)
 ]
 
 place_by_length : (p : Text → Bool) (xs : List Text) (n : ℕ) → position p xs ≡ Some n → n ≡ position_or_len p xs
@@ -146,12 +146,16 @@ new_place x name names n none at =
     let sum = prefix_len-append (λ y. not (p y)) names (name ∷ []) ∙ ap (λ t. cond t (length names + position_or_len p (name ∷ [])) (position_or_len p names)) same in
     omega (arith, first, sum)
 
--- both tests of a sort
-abbrev Tests : Option SymbolSort → Option SymbolSort → Type 0
-Tests o p = (is_symbol o ≡ is_symbol p) × (is_function o ≡ is_function p)
+-- the tests of a sort
+abbrev pub Tests : Option SymbolSort → Option SymbolSort → Type 0
+Tests o p = (is_symbol o ≡ is_symbol p) × (is_function o ≡ is_function p) × (is_declared o ≡ is_declared p)
 
-tests_same : (o p : Option SymbolSort) → o ≡ p → Tests o p
-tests_same o p e = (ap is_symbol e, ap is_function e)
+pub tests_same : (o p : Option SymbolSort) → o ≡ p → Tests o p
+tests_same o p e = (ap is_symbol e, ap is_function e, ap is_declared e)
+
+-- what is the same before and after on both sides is the same in both
+tests_through : (o p q r : Option SymbolSort) → Tests o p → Tests p q → Tests r q → Tests o r
+tests_through o p q r first both second = (first.0 ∙ both.0 ∙ sym second.0, first.1 ∙ both.1 ∙ sym second.1, first.2 ∙ both.2 ∙ sym second.2)
 
 front_same : (sorts : List SymbolSort) (more : List SymbolSort) (n : ℕ) → n < length sorts → slice_get (sorts ++ more) n ≡ slice_get sorts n
 front_same sorts more n less = let there = get_some sorts n less in get_front sorts more n there.0 there.1 ∙ sym there.1
@@ -167,12 +171,12 @@ mention_named x name t counted = by (place_of name t.names) refl where
       tests_same _ _ (ap (option_and_then (slice_get (t.sorts ++ symbol.Unknown ∷ []))) later ∙ front_same t.sorts (symbol.Unknown ∷ []) n (omega (arith, less, counted)))
   new None e = last (place_of x (t.names ++ name ∷ [])) refl where
     last : (place : Option ℕ) → place_of x (t.names ++ name ∷ []) ≡ place → Tests (option_and_then (slice_get (t.sorts ++ symbol.Unknown ∷ [])) place) None
-    last None h = (refl, refl)
+    last None h = (refl, refl, refl)
     last (Some n) h = let past = new_place x name t.names n e h in further_sort (slice_get (t.sorts ++ symbol.Unknown ∷ []) n) t.sorts n refl (omega (arith, past, counted))
 
   by : (place : Option ℕ) → place_of name t.names ≡ place
       → Tests (option_and_then (slice_get (sorts_with place symbol.Unknown t.sorts)) (place_of x (if is_some place then t.names else t.names ++ name ∷ []))) (sort_named x t)
-  by (Some n) e = (refl, refl)
+  by (Some n) e = (refl, refl, refl)
   by None e = new (place_of x t.names) refl
 
 counted_mention : (name : Text) (t : Table SymbolSort) → length t.sorts ≡ length t.names → length (mentioned name symbol.Unknown t).sorts ≡ length (mentioned name symbol.Unknown t).names
@@ -186,11 +190,7 @@ pub symbols_mention : {a b : Table SymbolSort} {uses more : List SymbolUse} (nam
     → Symbols (mentioned name symbol.Unknown a) (mentioned other symbol.Unknown b) uses more
 symbols_mention {a = a} {b = b} {uses = uses} {more = more} name other same h =
     subst (λ (n : Text). Symbols (mentioned name symbol.Unknown a) (mentioned n symbol.Unknown b) uses more) same (record {
-      alike = λ x.
-          let first = mention_named x name a h.counted in
-          let second = mention_named x name b h.counted_too in
-          let both = h.alike x in
-          (first.0 ∙ both.0 ∙ sym second.0, first.1 ∙ both.1 ∙ sym second.1);
+      alike = λ x. tests_through _ _ _ _ (mention_named x name a h.counted) (h.alike x) (mention_named x name b h.counted_too);
       counted = counted_mention name a h.counted;
       counted_too = counted_mention name b h.counted_too;
       used = λ u there.
@@ -278,13 +278,11 @@ symbols_define {a = a} {b = b} {uses = uses} {more = more} name other f g same h
           subst (λ (y : Text). Tests (sort_named y (defined (number_of name a.names) (symbol.Defined f) (mentioned name symbol.Unknown a))) (sort_named y (defined (number_of name b.names) (symbol.Defined g) (mentioned name symbol.Unknown b)))) (sym is) (
             ap is_symbol (defined_here name (symbol.Defined f) a h.counted) ∙ sym (ap is_symbol (defined_here name (symbol.Defined g) b h.counted_too)),
             ap is_function (defined_here name (symbol.Defined f) a h.counted) ∙ sym (ap is_function (defined_here name (symbol.Defined g) b h.counted_too)),
+            ap is_declared (defined_here name (symbol.Defined f) a h.counted) ∙ sym (ap is_declared (defined_here name (symbol.Defined g) b h.counted_too)),
           )
       by x false e =
           let apart : x ≡ name → ⊥ = λ is. (let yes = (bytes_eq-Decides x name).1 is in cc) in
-          let first = tests_same _ _ (defined_else x name (symbol.Defined f) a apart) in
-          let second = tests_same _ _ (defined_else x name (symbol.Defined g) b apart) in
-          let both = (symbols_mention name name refl h).alike x in
-          (first.0 ∙ both.0 ∙ sym second.0, first.1 ∙ both.1 ∙ sym second.1)
+          tests_through _ _ _ _ (tests_same _ _ (defined_else x name (symbol.Defined f) a apart)) ((symbols_mention name name refl h).alike x) (tests_same _ _ (defined_else x name (symbol.Defined g) b apart))
 
 -- a global name is defined so far where it is found as what it means
 pub known_named : (name : Text) (t : Table SymbolSort) → length t.sorts ≡ length t.names

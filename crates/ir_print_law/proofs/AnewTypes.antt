@@ -17,7 +17,8 @@ use Rattle.ir_forms.specs.declared.written.Base.{Base}
 use Rattle.ir_forms.specs.declared.written.Base.TheVariants as base
 use Rattle.ir_forms.specs.declared.written.WrittenType.{WrittenType}
 use Rattle.ir_forms.specs.Input.{limit, unexpected, unread, skip}
-use Rattle.ir_forms.specs.Written.{float_entry, float_base, float_here, float_by, float_written, float_scalar, integer_scalar, is_float, place_in_table, with_type_interned, with_type_interned_falls, intern, is_second_kind, interned_pointer, intern_pointer, opaque_type, bits_at, has_bits, integer, Firm, begins_unread_type, part_of, interned, length_at, has_length, array_length, array_after, at_brace, comma_or, after_field, field, field_takes, before, struct_of, fields_afterwards, base_by, at_star, star_or, pointers, stars_after, starred, no_parameters, with_stars, no_type, over, firm, type_within, is_pointer, is_scalar, word_of, is_passed, then_allowed, type_that, any_type, scalar_within, scalar, passed_type, pointer_type}
+use Rattle.ir_forms.specs.Written.{float_entry, float_base, float_here, float_by, float_written, float_scalar, integer_scalar, is_float, place_in_table, with_type_interned, with_type_interned_falls, intern, is_second_kind, interned_pointer, intern_pointer, opaque_type, bits_at, has_bits, integer, Firm, begins_unread_type, part_of, interned, length_at, has_length, array_length, array_after, at_brace, comma_or, after_field, field, field_takes, before, struct_of, fields_afterwards, base_by, at_star, star_or, pointers, stars_after, starred, no_parameters, with_stars, no_type, over, firm, type_within, is_pointer, is_scalar, word_of, is_passed, then_allowed, type_that, any_type, scalar_within, scalar, passed_type, pointer_type, result_stars, type_before, word_before, result_by, result_type}
+use Rattle.ir_forms.specs.Written as written
 use Rattle.ir_forms.specs.declared.written.FloatType.{FloatType}
 use Rattle.ir_print_law.proofs.Tables.{type_begins, type_there, begins_itself, stays, place_stays}
 use Rattle.ir_print_law.specs.Shapes.{Shape, Integer, Float, Pointer, Array, Empty, Struct, Named, Opaque}
@@ -276,10 +277,13 @@ module _ (s : Seat) where
 
   -- ---- a type
 
+  base_at : (room : ℕ) (inner : Firm) → Both s Written inner.form inner.form → Both s Written (written.base room inner) (written.base room inner)
+  base_at room inner each i j = kinds s (base_by room inner) (base_by room inner) i j (λ x. base_by_at room inner each x i j)
+
   over_at : (room : ℕ) (inner : Firm) → Both s Written inner.form inner.form → Both s Written (over room inner) (over room inner)
   over_at room inner each i j =
       looks_any s (λ i. start i.cursor) (λ i. start i.cursor) (λ start. look (λ i. kind i.cursor) (base_by room inner) >>= starred start) (λ start. look (λ i. kind i.cursor) (base_by room inner) >>= starred start) i j
-      (λ from there. then s (kinds s (base_by room inner) (base_by room inner) i j (λ x. base_by_at room inner each x i j)) (λ v u m q h x y. starred_at from there v u m q h))
+      (λ from there. then s (base_at room inner each i j) (λ v u m q h x y. starred_at from there v u m q h))
 
   firm_at : (levels : ℕ) → Both s Written (firm levels).form (firm levels).form
   unfolding firm no_type
@@ -343,3 +347,28 @@ module _ (s : Seat) where
   pointer_type_at i j = then s (any_type_at i j) (λ w u m q h x y.
       then s (tested s (λ _. is_pointer w) (λ _. is_pointer u) unexpected unexpected m q (λ b e. sym (ap₂ (λ (x : Base) (k : ℕ). is_pointer (record { base = x; stars = k; id = 0; room = 0 })) h.0 h.1) ∙ e))
       (λ _ _ n r _ z e. give s {V = Written} w u (written_later m q n r w u z e h)))
+
+  -- ---- the type of a call's result
+
+  result_stars_at : (from there : ℕ) (v u : WrittenType) (i j : Input) → Written i j v u → At s Written (result_stars from v) (result_stars there u) i j
+  result_stars_at from there v u i j h =
+      then s (subst (λ (x : Base). At s Found (stars_after from v v.base) (stars_after there u x) i j) h.0 (after_by from there v u v.base i j h.2 h.3)) (λ f g m q found x y.
+      give s {V = Written} (with_stars v f) (with_stars u g) (h.0, ap₂ (λ (a b : ℕ). a - b) h.2 found.0, found.0, found.1))
+
+  type_before_at : Both s Written type_before type_before
+  unfolding type_before
+  type_before_at i j =
+      looks_any s (λ i. start i.cursor) (λ i. start i.cursor) (λ start. written.base 63 (firm 63) >>= result_stars start) (λ start. written.base 63 (firm 63) >>= result_stars start) i j
+      (λ from there. then s (base_at 63 (firm 63) (firm_at 63) i j) (λ v u m q h x y. result_stars_at from there v u m q h))
+
+  word_before_at : (fault other : Fault) → Both s Written (word_before fault) (word_before other)
+  word_before_at fault other i j = then s (type_before_at i j) (λ w u m q h x y. then_allowed_at is_scalar scalar_looks fault other w u m q h)
+
+  result_by_at : (wide : Bool) → Both s Written (result_by wide) (result_by wide)
+  result_by_at true i j = looks_any s (λ i. left_out i.cursor) (λ i. left_out i.cursor) word_before word_before i j (λ fault other. word_before_at fault other i j)
+  result_by_at false i j = scalar_at i j
+
+  -- the type of a call's result
+  pub result_type_at : Both s Written result_type result_type
+  unfolding result_type
+  result_type_at i j = looks s (λ i. i.wide) (λ i. i.wide) result_by result_by i j (λ beside. beside.forms) (λ t. result_by_at t i j)

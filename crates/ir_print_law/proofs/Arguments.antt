@@ -1,5 +1,6 @@
 -- Operands with their types, pairs of operands, places and lists of arguments, as they are read.
-use Rattle.std.proofs.Common.{ℕ, ◌<◌, false, List, [], ◌∷◌, length, Option, None, Some, sym, subst, arith}
+use Rattle.std.proofs.Common.{ℕ, ◌<◌, Bool, true, false, if◌then◌else◌, List, [], ◌∷◌, length, Option, None, Some, sym, subst, ◌∙◌, arith}
+use Rattle.std.specs.Prelude.{◌||◌, nat_lt, filter_map}
 use Rattle.std.specs.List.{AllByRecursion}
 use Rattle.ir_ast.specs.declared.argument.Argument.{Argument}
 use Rattle.ir_ast.specs.declared.function.Function.{Function}
@@ -11,7 +12,8 @@ use Rattle.ir_forms.specs.declared.input.Input.{Input}
 use Rattle.ir_forms.specs.declared.written.WrittenType.{WrittenType}
 use Rattle.ir_forms.specs.Written.{has_opaque, is_scalar, word_of}
 use Rattle.ir_forms.specs.ManyWith.{Follows}
-use Rattle.ir_forms.specs.Lists.{argument, argument_takes, arguments, at_round, typed, index, any_index, indices, ends_indices, after_index}
+use Rattle.ir_forms.specs.declared.lists.DottedArguments.{DottedArguments}
+use Rattle.ir_forms.specs.Lists.{argument, argument_takes, arguments, is_null, past_dots, dotted_argument, ends_dotted, after_dotted, dotted_arguments, at_round, typed, index, any_index, indices, ends_indices, after_index}
 use Rattle.ir_forms.specs.Choices.{typed_pair}
 use Rattle.ir_forms.specs.FloatOps.{float_pair}
 use Rattle.ir_forms.specs.Numbers.{pair, typed_integer, condition, bit_type}
@@ -25,7 +27,7 @@ use Rattle.ir_forms.specs.declared.written.FloatType.TheVariants as size
 use Rattle.ir_print_law.specs.Definitions.{defined_structs}
 use Rattle.ir_print_law.specs.Parts.{IsFloat, IsNoFloat, IsArgument, IsOperand, ArePair, IsCondition, IsPlaceType}
 use Rattle.ir_print_law.specs.Shapes.{Shape, Integer, Float, Pointer, Array, Empty, Struct, Named, Opaque, IsWritten, word_of_shape}
-use Rattle.ir_print_law.proofs.Forms.{Keeps, Same, all, each_with}
+use Rattle.ir_print_law.proofs.Forms.{Keeps, Same, all, all_with}
 use Rattle.ir_print_law.proofs.Decorations.{decorations_pass, separator_passes}
 use Rattle.ir_print_law.proofs.Looks.{IsTypeOf, bits_are}
 use Rattle.ir_print_law.proofs.Operands.{AreBits, IsRead, operand_keeps}
@@ -216,6 +218,46 @@ module _ {m : Module} {f : Function} (v : Within m f) where
   unfolding arguments
   arguments_keep i = all v.reading.Back v.reading.Fore (IsArgument m f) at_round argument argument_takes argument_keeps i
 
+  -- what is kept of an argument
+  abbrev IsKept : Option Argument → Type 0
+  IsKept None = Unit {0}
+  IsKept (Some x) = IsArgument m f x
+
+  kept_or : (t : Bool) (x y : Option Argument) → IsKept x → IsKept y → IsKept (if t then x else y)
+  kept_or true x y a b = a
+  kept_or false x y a b = b
+
+  past_is : (w : Word) (x : Argument) (outside : Bool) → IsArgument m f x → IsKept (past_dots w x outside)
+  past_is sort.Pointer x outside is = kept_or (outside || is_null x.operand) None (Some x) tt is
+  past_is (sort.Integer bits) x outside is = tt
+  past_is sort.Float x outside is = tt
+  past_is sort.Double x outside is = tt
+
+  dotted_keeps : (s : DottedArguments) (i : Input) → Keeps v.reading.Fore (Same v.reading.Fore) v.reading.Back (dotted_argument s) IsKept i
+  unfolding dotted_argument argument
+  dotted_keeps s i x o h fore =
+      let t = h.3 in
+      let b = t.3 in
+      let same = b.2.1 ∙ b.3.1 in
+      let a = argument_keeps i t.0 t.1 (h.0, h.1, h.2, t.2) fore in (
+        subst v.reading.Fore same a.0,
+        λ back.
+            let ab = a.1 (subst v.reading.Back (sym same) back) in
+            (ab.0, subst IsKept b.3.0 (kept_or (nat_lt 0 s.left) (Some t.0) (past_dots (word_of h.0) t.0 b.0) ab.1 (past_is (word_of h.0) t.0 b.0 ab.1))),
+      )
+
+  all_kept : (xs : List (Option Argument)) → AllByRecursion IsKept xs → AllByRecursion (IsArgument m f) (filter_map (λ x. x) xs)
+  all_kept [] h = tt
+  all_kept (None ∷ xs) h = all_kept xs h.1
+  all_kept (Some x ∷ xs) h = (h.0, all_kept xs h.1)
+
+  pub dotted_arguments_keep : (fixed : ℕ) (i : Input) → Keeps v.reading.Fore (Same v.reading.Fore) v.reading.Back (dotted_arguments fixed) (AllByRecursion (IsArgument m f)) i
+  unfolding dotted_arguments
+  dotted_arguments_keep fixed i xs o h fore =
+      let r = v.reading in
+      let a = all_with r.Back r.Fore IsKept ends_dotted dotted_argument after_dotted dotted_keeps (record { left = fixed }) i h.0 h.1 h.2 fore in
+      (subst r.Fore h.3.1 a.0, λ back. let ab = a.1 (subst r.Back (sym h.3.1) back) in (ab.0, subst (AllByRecursion (IsArgument m f)) h.3.0 (all_kept h.0 ab.1)))
+
   -- ---- indices
 
   index_keeps : (s : IndexList) (i : Input) → Keeps v.reading.Fore (Same v.reading.Fore) v.reading.Back (any_index s) (IsArgument m f) i
@@ -233,7 +275,5 @@ module _ {m : Module} {f : Function} (v : Within m f) where
   pub indices_keep : (i : Input) → Keeps v.reading.Fore (Same v.reading.Fore) v.reading.Back indices (λ xs. (0 < length xs) × AllByRecursion (IsArgument m f) xs) i
   unfolding indices
   indices_keep i xs o h fore =
-      let r = v.reading in
-      let x = each_with r.Back (λ _. r.Fore) (λ c xs. AllByRecursion (IsArgument m f) xs) ends_indices any_index after_index (λ c. tt)
-      (λ c j a p said fore. let y = index_keeps c j a p said fore in (y.0, λ b. let z = y.1 b in (z.0, λ xs rest. (z.1, rest)))) (record { is_further = false }) i xs o h fore in
-      (x.0.1, λ b. let c = x.1 b in (c.0, (some_index i xs o h, c.1)))
+      let x = all_with v.reading.Back v.reading.Fore (IsArgument m f) ends_indices any_index after_index index_keeps (record { is_further = false }) i xs o h fore in
+      (x.0, λ b. let c = x.1 b in (c.0, (some_index i xs o h, c.1)))

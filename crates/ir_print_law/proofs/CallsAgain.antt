@@ -1,5 +1,5 @@
 -- Printed calls are read as these calls again.
-use Rattle.std.proofs.Common.{◌≡◌, ℕ, ◌+◌, Bool, true, false, List, [], ◌∷◌, ◌++◌, slice_get, Some, refl, ap, subst, arith, append_assoc, inl, inr, Option, sym, ◌∙◌}
+use Rattle.std.proofs.Common.{◌≡◌, ℕ, ◌+◌, Bool, true, false, List, [], ◌∷◌, ◌++◌, slice_get, None, Some, refl, ap, subst, arith, append_assoc, inl, inr, Option, sym, ◌∙◌}
 use Rattle.std.specs.Prelude.{codes, drop}
 use Rattle.grammar.specs.Grammar.{pure, look, ◌>>=◌, ◌>>◌}
 use Rattle.ir_ast.specs.declared.calls.Call.{Call}
@@ -34,9 +34,10 @@ use Rattle.ir_print_law.proofs.OneKind.{IsLonger}
 use Rattle.ir_print_law.proofs.Tables.{stays}
 use Rattle.ir_print_law.proofs.State.{Invariant, Ready, IsLater, Reads}
 use Rattle.ir_print_law.proofs.Shown.{shown, IsTypeRead}
-use Rattle.ir_print_law.proofs.Steps.{looked, given, sign_reads, word_skipped, word_seen, intern_reads, later_before}
+use Rattle.ir_print_law.proofs.Steps.{looked, says_too, given, sign_reads, word_skipped, word_seen, intern_reads, later_before}
 use Rattle.ir_print_law.proofs.WholeTypes.{type_begins}
 use Rattle.ir_print_law.proofs.PrintedTypes.{type_shown, read_again, scalar_reads, void_shown}
+use Rattle.ir_print_law.proofs.PlainForms.{result_said, signature_said}
 use Rattle.ir_print_law.proofs.Parts.{IsLaterAgain, OpAgain, Sets}
 use Rattle.ir_print_law.proofs.Setting.{on, said_on, set_reads}
 use Rattle.std.specs.List.{AllByRecursion}
@@ -107,7 +108,8 @@ module _ {m : Module} {f : Function} (v : Invariant m f) where
       let a : Reads v s calls.called i (40 ∷ (listed (argument_text m f.locals) x.arguments ++ 41 ∷ rest)) (λ n o. slice_get o.symbols.names n ≡ Some (name_at m.symbols x.callee)) =
       looked v (λ i. kind i.cursor) calls.called_by i (40 ∷ (listed (argument_text m f.locals) x.arguments ++ 41 ∷ rest)) s (λ n o. slice_get o.symbols.names n ≡ Some (name_at m.symbols x.callee)) k.GlobalName g1.0
       (number_of name i.symbols.names, with_symbol_use true i, c.0, symbol_ready v true i _ t1 s name c.1 there ready (sign_less v 64 (32 ∷ []) (name_text blank.Kept name) t1) c.2, symbol_grows v true i, symbol_there v i name true c.1) in
-      on v v calls.called round_form i t1 rest s s (λ n o. slice_get o.symbols.names n ≡ Some (name_at m.symbols x.callee)) good a
+      said_on v calls.signature (calls.call_parts number) i None rest s good (signature_said i g1.0)
+      (on v v calls.called round_form i t1 rest s s (λ n o. slice_get o.symbols.names n ≡ Some (name_at m.symbols x.callee)) good a
       (λ fn o ready g named.
       on v v (expect k.OpenRound) (λ _. arguments_form fn) o t2 rest s s (λ _ q. advanced o ≡ q) good
       (sign_reads v 40 k.OpenRound o [] t2 s s refl refl refl (omega arith) ready)
@@ -125,7 +127,7 @@ module _ {m : Module} {f : Function} (v : Invariant m f) where
       let laterq = later_before q r n others hh laterr in
       let latero = later_before o q n others h laterq in
       let lateri = later_before i o n others g latero in
-      (again n others lateri, stays o.symbols.names n.symbols fn (name_at m.symbols x.callee) latero.symbols named, arguments_again n others laterr)))))))
+      (again n others lateri, stays o.symbols.names n.symbols fn (name_at m.symbols x.callee) latero.symbols named, arguments_again n others laterr))))))))
     where
       made : ℕ → List Argument → Call
       made fn ys = record { returned = number; callee = fn; arguments = ys }
@@ -197,8 +199,9 @@ module _ {m : Module} {f : Function} (v u : Invariant m f) where
       (λ _ o ready g e.
       let begins = type_begins v shape o (32 ∷ []) t2 scalar.0.2 refl refl ready.stands in
       said_on u (decorations spot.Result) (λ _. calls.named_call value) o tt rest s good (decorations_said spot.Result o (undecorated_type (begins_line o.cursor) (kind o.cursor) begins))
-      (on v u w.scalar call_form o t2 rest s s (IsTypeRead shape 64) good
-      (scalar_reads v shape o (32 ∷ []) t2 s scalar.0.2 scalar.0.1 scalar.1 refl (ends_global (name_at m.symbols x.callee) (40 ∷ (listed (argument_text m f.locals) x.arguments ++ 41 ∷ rest)) is.0 refl) ready)
+      (on v u w.result_type call_form o t2 rest s s (IsTypeRead shape 64) good
+      (says_too v w.scalar w.result_type o t2 s (IsTypeRead shape 64) (result_said o)
+      (scalar_reads v shape o (32 ∷ []) t2 s scalar.0.2 scalar.0.1 scalar.1 refl (ends_global (name_at m.symbols x.callee) (40 ∷ (listed (argument_text m f.locals) x.arguments ++ 41 ∷ rest)) is.0 refl) ready))
       (λ p q ready h read.
       let spelled = (global_comes q.cursor (32 ∷ []) (name_at m.symbols x.callee) (40 ∷ (listed (argument_text m f.locals) x.arguments ++ 41 ∷ rest)) refl is.0 refl ready.stands).1 in
       looked u stand_in (calls.named_call_by value p.id) q rest s good Itself (printed_itself m.wide (name_at m.symbols x.callee) q is.1 spelled)

@@ -35,7 +35,7 @@ use Rattle.ir_print_law.specs.Again.{IsDeclareAgain}
 use Rattle.ir_print_law.proofs.State.{Ready, IsLater}
 use Rattle.ir_print_law.proofs.Steps.{word_skipped, word_seen, sign_reads}
 use Rattle.ir_print_law.proofs.Types.{Comes}
-use Rattle.ir_print_law.proofs.DeclaredLists.{declared_go, far_numbered}
+use Rattle.ir_print_law.proofs.DeclaredLists.{dots_said, declared_go, far_numbered}
 use Rattle.ir_print_law.proofs.Defining.{function_defined}
 use Rattle.ir_print_law.proofs.WholeForms.{Goes, Widens, widens_further, grows_widens, later_widened}
 use Rattle.ir_print_law.proofs.Known.{Far, AreNamed, known, SymbolsKnown}
@@ -80,7 +80,7 @@ module _ (m : Module) (f : Function) (named : AreNamed m f) (types : TypesRead m
   name_step name number i apart never = λ h e.
       subst (λ (x : Text). SymbolsKnown m (far.symbols ++ x ∷ []) far.globals (far.functions ++ x ∷ []) (with_symbol (symbol.Declared number) i).symbols i.symbol_uses) e
       (function_defined m far.symbols far.globals far.functions i.symbols i.symbol_uses (spelled i.cursor) (symbol.Declared number) tt
-      (λ is. apart (subst (λ (x : Text). IsIn x far.globals) e is)) (λ is. never (subst (λ (x : Text). IsIn x (defined_globals m)) e is)) h)
+      (λ is. apart (subst (λ (x : Text). IsIn x far.globals) e is)) (λ is. never (subst (λ (x : Text). IsIn x (defined_globals m)) e is)) (λ is. refl) h)
 
   name_reads : (number : ℕ) (i : Input) (name rest : Text) → AreBytes name → is_left_out m.wide name ≡ false → (IsIn name far.symbols → ⊥) → (IsIn name far.globals → ⊥) → (IsIn name (defined_globals m) → ⊥)
       → Ready (known m f named far) 0 i (32 ∷ 64 ∷ (name_text blank.Kept name ++ 40 ∷ rest))
@@ -143,7 +143,7 @@ module _ (m : Module) (f : Function) (named : AreNamed m f) (types : TypesRead m
           tt,
           i,
           (below_most number counted, refl),
-          (tt, p, a.2, (b.0, q, b.2, subst (λ (z : Bool). (declare_by (length i.declares) b.0 z).says q tt o) (sym kept) (c.0, r, c.2, (tt, s, g.2, (e.0, t, e.3, (tt, u, h.2, (l.0, y, l.2, (refl, refl)))))))),
+          (tt, p, a.2, (b.0, q, b.2, subst (λ (z : Bool). (declare_by (length i.declares) b.0 z).says q tt o) (sym kept) (c.0, r, c.2, (tt, s, g.2, (e.0, t, (e.0, t, e.3, (false, t, dots_said t (10 ∷ rest) e.4.stands, (refl, refl))), (tt, u, h.2, (l.0, y, l.2, (refl, refl)))))))),
         ),
         record {
           stands = l.3.stands;

@@ -27,7 +27,7 @@ use Rattle.ir_print_law.proofs.FunctionLists.{function_names, define_comes, func
 use Rattle.ir_print.specs.Names.{name_at, global_text}
 use Rattle.ir_print_law.specs.Stands.{Stands, AreBlanks}
 use Rattle.ir_print_law.proofs.Words.{word_comes}
-use Rattle.ir_print_law.specs.Definitions.{AreNew, defined_globals}
+use Rattle.ir_print_law.specs.Definitions.{AreNew, defined_globals, declared_functions}
 use Rattle.ir_print_law.specs.Printable.{IsFunction, IsDeclare, IsPrintable, IsSymbol}
 use Rattle.ir_print_law.specs.PartsAgain.{AreAlike}
 use Rattle.ir_print_law.specs.Again.{IsDeclareAgain, IsFunctionAgain}
@@ -102,10 +102,10 @@ module _ (m : Module) (is : IsPrintable m) (named : AreNamed m nobody) where
   pub declares_go : (ds : List Declare) (fs : List Function) (far : Far) (i : Input) (gap : Text) → AreBlanks gap → past_gap false gap ≡ [] → past_gap false (10 ∷ []) ≡ [] → AllByRecursion (IsDeclare m) ds
       → AllByRecursion (IsFunction m) fs → AllByRecursion (IsSymbol m.wide) (declared_names m ds ++ function_names m fs) → AreNew far.symbols (declared_names m ds ++ function_names m fs)
       → ((name : Text) → IsIn name far.globals → IsIn name far.symbols) → ((name : Text) → IsIn name (declared_names m ds ++ function_names m fs) → IsIn name (defined_globals m) → ⊥)
-      → length far.declares + length ds ≤ 65535 → length far.defines + length fs ≤ 65535 → outside far ≡ far
+      → ((name : Text) → IsIn name (function_names m fs) → IsIn name (declared_functions m) → ⊥) → length far.declares + length ds ≤ 65535 → length far.defines + length fs ≤ 65535 → outside far ≡ far
       → Ready (known m nobody named far) 0 i (gap ++ (flat_map (declare_line m) ds ++ flat_map (function_text m) fs)) → DeclaresGo ds fs far i
-  declares_go [] fs far i gap blanks past past_line are functions symbols new globals never few few_functions out ready =
-      let h = functions_go m is named fs far i gap blanks past past_line functions symbols new globals never few_functions out ready in
+  declares_go [] fs far i gap blanks past past_line are functions symbols new globals never other few few_functions out ready =
+      let h = functions_go m is named fs far i gap blanks past past_line functions symbols new globals never other few_functions out ready in
       let w = h.9 in (
         h.0,
         h.1,
@@ -129,7 +129,7 @@ module _ (m : Module) (is : IsPrintable m) (named : AreNamed m nobody) where
         λ n later. tt,
         h.10,
       )
-  declares_go (d ∷ ds) fs far i gap blanks past past_line are functions symbols new globals never few few_functions out ready =
+  declares_go (d ∷ ds) fs far i gap blanks past past_line are functions symbols new globals never other few few_functions out ready =
       let name = name_at m.symbols d.symbol in
       let afterwards = flat_map (declare_line m) ds ++ flat_map (function_text m) fs in
       let here = subst (λ (t : Text). Ready (known m nobody named far) 0 i (gap ++ t)) (append_assoc (declare_line m d) (flat_map (declare_line m) ds) (flat_map (function_text m) fs)) ready in
@@ -145,7 +145,7 @@ module _ (m : Module) (is : IsPrintable m) (named : AreNamed m nobody) where
       let mid : Far = record far { symbols = far.symbols ++ name ∷ []; functions = far.functions ++ name ∷ []; declares = far.declares ++ x ∷ []; unnamed = 0 } in
       let size = length-append far.declares (x ∷ []) in
       let out_mid : outside mid ≡ mid = ap (λ (y : Far). record y { symbols = far.symbols ++ name ∷ []; functions = far.functions ++ name ∷ []; declares = far.declares ++ x ∷ []; unnamed = 0 }) out in
-      let next = declares_go ds fs mid p (10 ∷ []) refl past_line past_line are.1 functions symbols.1 new.1 (λ k h. in_first k far.symbols (name ∷ []) (globals k h)) (λ k h. never k (inr h))
+      let next = declares_go ds fs mid p (10 ∷ []) refl past_line past_line are.1 functions symbols.1 new.1 (λ k h. in_first k far.symbols (name ∷ []) (globals k h)) (λ k h. never k (inr h)) other
       (omega (arith, few, size)) few_functions out_mid one.3 in
       let o = next.1 in
       let now = next.2 in

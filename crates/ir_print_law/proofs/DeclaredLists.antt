@@ -1,6 +1,6 @@
 -- The parameters of a declared function are read as these types again.
 use Rattle.std.proofs.Common.{◌≡◌, ℕ, ◌+◌, ◌<◌, Bool, true, false, List, [], ◌∷◌, ◌++◌, length, refl, sym, ap, subst, ◌∙◌, arith, append_assoc, inl, inr, ◌⊎◌}
-use Rattle.std.specs.Prelude.{codes, nat_lt}
+use Rattle.std.specs.Prelude.{◌||◌, codes, nat_lt}
 use Rattle.std.specs.List.{AllByRecursion, flat_map}
 use Rattle.std.proofs.lemmas.Bool.Decides.{nat_tests}
 use Rattle.ir_print_law.proofs.ArgumentsAgain.{decorations_said}
@@ -10,13 +10,13 @@ use Rattle.ir_ast.specs.declared.module.Module.{Module}
 use Rattle.ir_tokens.specs.declared.token.Kind.{Kind}
 use Rattle.ir_tokens.specs.declared.token.Kind.TheVariants as k
 use Rattle.ir_tokens.specs.Bytes.{Text, class_of}
-use Rattle.ir_forms.specs.Cursor.{kind, begins_line}
+use Rattle.ir_forms.specs.Cursor.{kind, begins_line, sees}
 use Rattle.ir_forms.specs.declared.input.Input.{Input}
 use Rattle.ir_forms.specs.Names.{take_number, with_number_taken}
 use Rattle.ir_forms.specs.Written.{begins_type}
 use Rattle.ir_forms.specs.declared.decorating.Spot.TheVariants as spot
 use Rattle.ir_forms.specs.Decorations.{begins_decoration}
-use Rattle.ir_forms.specs.Lists.{at_round}
+use Rattle.ir_forms.specs.Lists.{at_dots, ends_parameters, dots_by, dots}
 use Rattle.ir_text.specs.Parameters.{declared_parameter, declared_name, declared_name_by}
 use Rattle.ir_print.specs.Operands.{listed}
 use Rattle.ir_print_law.specs.Stands.{Stands, IsSeam, AreBlanks}
@@ -33,6 +33,7 @@ use Rattle.ir_print_law.proofs.WholeForms.{Widens, widens_itself, widens_further
 use Rattle.ir_print_law.proofs.Known.{Far, AreNamed, known}
 use Rattle.ir_print_law.proofs.Needs.{TypesRead}
 use Rattle.ir_print_law.proofs.ParameterLists.{Separates, close_separates, comma_separates}
+use Rattle.ir_print_law.proofs.Undropped.{and_last}
 
 -- a comma, or the bracket that closes, after a type
 abbrev IsSeparator : Kind → Type 0
@@ -64,6 +65,20 @@ number_taken x i o (inr e) h = subst (λ (y : Kind). (declared_name_by y).says i
 one_number : (i : Input) → i.unnamed < 4294967295 → take_number.says i tt (with_number_taken i)
 unfolding take_number
 one_number i less = let further : nat_lt i.unnamed 4294967295 ≡ true = grind (arith, nat_tests) in (tt, i, (further, refl), (refl, refl))
+
+no_dots : (i : Input) → sees k.Dots i.cursor ≡ false → at_dots i ≡ false
+unfolding at_dots
+no_dots i e = and_last i.wide (sees k.Dots i.cursor) e
+
+is_close : Kind → Bool
+is_close k.CloseRound = true
+is_close _ = false
+
+-- no dots stand before the bracket that closes
+pub dots_said : (o : Input) (rest : Text) → Stands o.cursor (41 ∷ rest) → dots.says o false o
+unfolding dots
+dots_said o rest at =
+    subst (λ (b : Bool). (dots_by b).says o false o) (sym (no_dots o (unlike k.Dots is_close o refl (ap is_close (close_round_comes o.cursor rest at).0)))) (refl, refl)
 
 module _ (m : Module) (f : Function) (named : AreNamed m f) (types : TypesRead m) where
   abbrev pub far_numbered : Far → ℕ → Far
@@ -143,14 +158,16 @@ module _ (m : Module) (f : Function) (named : AreNamed m f) (types : TypesRead m
 
   abbrev pub DeclaredGo : List ℕ → Far → Input → (rest : Text) → Type 0
   DeclaredGo ps far i rest =
-      (ys : List ℕ) × (o : Input) × (unnamed : ℕ) × Listed at_round declared_parameter.says i ys o × Ready (known m f named (far_numbered far unnamed)) 0 o (41 ∷ rest) × Widens i o
+      (ys : List ℕ) × (o : Input) × (unnamed : ℕ) × Listed ends_parameters declared_parameter.says i ys o × Ready (known m f named (far_numbered far unnamed)) 0 o (41 ∷ rest) × Widens i o
       × ((n : Module) (others : List Text) → IsLater o n others → AreAlike (IsTypeAgain m n) ps ys)
 
-  at_close : (o : Input) (rest : Text) → Stands o.cursor (41 ∷ rest) → at_round o ≡ true
-  at_close o rest at = seen k.CloseRound o (close_round_comes o.cursor rest at).0
+  at_close : (o : Input) (rest : Text) → Stands o.cursor (41 ∷ rest) → ends_parameters o ≡ true
+  at_close o rest at = ap (λ (b : Bool). b || at_dots o) (seen k.CloseRound o (close_round_comes o.cursor rest at).0)
 
-  not_close : (x : ℕ) (i : Input) (gap sep : Text) → IsAnyType m x → IsSeam sep → AreBlanks gap → Stands i.cursor (gap ++ (type_text m x ++ sep)) → at_round i ≡ false
-  not_close x i gap sep is seam blanks at = unlike k.CloseRound begins_type i refl (types.type_comes is.0 x i.cursor gap sep is.1 blanks seam at)
+  not_close : (x : ℕ) (i : Input) (gap sep : Text) → IsAnyType m x → IsSeam sep → AreBlanks gap → Stands i.cursor (gap ++ (type_text m x ++ sep)) → ends_parameters i ≡ false
+  not_close x i gap sep is seam blanks at =
+      let begins = types.type_comes is.0 x i.cursor gap sep is.1 blanks seam at in
+      ap (λ (b : Bool). b || at_dots i) (unlike k.CloseRound begins_type i refl begins) ∙ no_dots i (unlike k.Dots begins_type i refl begins)
 
   further_go : (x : ℕ) (ps : List ℕ) (far : Far) (i : Input) (gap rest : Text) → AllByRecursion (IsAnyType m) (x ∷ ps) → far.unnamed + length (x ∷ ps) < 4294967295 → AreBlanks gap
       → Ready (known m f named far) 0 i (gap ++ (type_text m x ++ afterwards_first ps rest)) → DeclaredGo (x ∷ ps) far i rest

@@ -23,9 +23,10 @@ use Rattle.ir_forms.specs.Names.{is_symbol, is_function, is_local, is_wanted}
 use Rattle.ir_forms.specs.Names as names
 use Rattle.ir_text.specs.Late.{is_right}
 use Rattle.ir_text.specs.Late as late
-use Rattle.ir_print_law.specs.Definitions.{defined_globals}
+use Rattle.ir_print_law.specs.Definitions.{defined_globals, declared_functions}
 use Rattle.ir_print_law.proofs.Named.{sort_at, sort_number, even_defined, place_numbered}
 use Rattle.ir_print_law.proofs.Reading.{IsValueSort}
+use Rattle.ir_print_law.proofs.Used.{is_defined}
 use Rattle.ir_print_law.proofs.Known.{Tells, tells_defined, known_keys, StructsKnown, SymbolsKnown, LocalsKnown, structs_mentioned, symbols_mentioned, locals_mentioned}
 
 -- an element before the last one
@@ -67,9 +68,9 @@ struct_is_new m structs t uses k h none =
 symbols_defined : (m : Module) (symbols globals functions more_globals more_functions : List Text) (t : Table SymbolSort) (uses : List SymbolUse) (k : Text) (sort : SymbolSort)
     → ((name : Text) → IsIn name more_globals → name ≡ k → is_right false (Some sort) ≡ true) → ((name : Text) → IsIn name more_globals → (name ≡ k → ⊥) → IsIn name globals)
     → ((name : Text) → IsIn name more_functions → name ≡ k → is_right true (Some sort) ≡ true) → ((name : Text) → IsIn name more_functions → (name ≡ k → ⊥) → IsIn name functions)
-    → (IsIn k (defined_globals m) → not (is_function (Some sort)) ≡ true) → SymbolsKnown m symbols globals functions t uses
+    → (IsIn k (defined_globals m) → not (is_function (Some sort)) ≡ true) → (IsIn k (declared_functions m) → not (is_defined (Some sort)) ≡ true) → SymbolsKnown m symbols globals functions t uses
     → SymbolsKnown m (symbols ++ k ∷ []) more_globals more_functions (defined (number_of k t.names) sort (mentioned k symbol.Unknown t)) uses
-symbols_defined m symbols globals functions more_globals more_functions t uses k sort global_here global_before function_here function_before no_function h =
+symbols_defined m symbols globals functions more_globals more_functions t uses k sort global_here global_before function_here function_before no_function no_defined h =
     let g = symbols_mentioned m symbols globals functions t uses k h in
     let place = place_numbered k t.names in
     record {
@@ -80,6 +81,8 @@ symbols_defined m symbols globals functions more_globals more_functions t uses k
           (λ name none e. not_last symbols k name none e) (λ name none ne. λ is. none (in_first name symbols (k ∷ []) is)) g.new;
       no_function = tells_defined (λ x. IsIn x (defined_globals m)) (λ x. IsIn x (defined_globals m)) (λ s. not (is_function s)) (mentioned k symbol.Unknown t) k (number_of k t.names) sort g.even place
           (λ name is e. no_function (subst (λ (x : Text). IsIn x (defined_globals m)) e is)) (λ name is ne. is) g.no_function;
+      no_defined = tells_defined (λ x. IsIn x (declared_functions m)) (λ x. IsIn x (declared_functions m)) (λ s. not (is_defined s)) (mentioned k symbol.Unknown t) k (number_of k t.names) sort g.even place
+          (λ name is e. no_defined (subst (λ (x : Text). IsIn x (declared_functions m)) e is)) (λ name is ne. is) g.no_defined;
       uses_so = g.uses_so;
     }
 
@@ -89,7 +92,7 @@ global_defined m symbols globals functions t uses k number apart h =
     symbols_defined m symbols globals functions (globals ++ k ∷ []) functions t uses k (symbol.Global number)
     (λ name is e. refl) (λ name is ne. before_last globals k name is ne)
     (λ name is e. absurd (apart (subst (λ (x : Text). IsIn x functions) e is))) (λ name is ne. is)
-    (λ is. refl) h
+    (λ is. refl) (λ is. refl) h
 
 -- this sort is a function
 abbrev pub IsFunctionSort : SymbolSort → Type 0
@@ -104,13 +107,13 @@ right_function (symbol.Declared number) is = refl
 right_function (symbol.Defined number) is = refl
 
 pub function_defined : (m : Module) (symbols globals functions : List Text) (t : Table SymbolSort) (uses : List SymbolUse) (k : Text) (sort : SymbolSort) → IsFunctionSort sort
-    → (IsIn k globals → ⊥) → (IsIn k (defined_globals m) → ⊥) → SymbolsKnown m symbols globals functions t uses
+    → (IsIn k globals → ⊥) → (IsIn k (defined_globals m) → ⊥) → (IsIn k (declared_functions m) → not (is_defined (Some sort)) ≡ true) → SymbolsKnown m symbols globals functions t uses
     → SymbolsKnown m (symbols ++ k ∷ []) globals (functions ++ k ∷ []) (defined (number_of k t.names) sort (mentioned k symbol.Unknown t)) uses
-function_defined m symbols globals functions t uses k sort is_function_sort apart never h =
+function_defined m symbols globals functions t uses k sort is_function_sort apart never other h =
     symbols_defined m symbols globals functions globals (functions ++ k ∷ []) t uses k sort
     (λ name is e. absurd (apart (subst (λ (x : Text). IsIn x globals) e is))) (λ name is ne. is)
     (λ name is e. right_function sort is_function_sort) (λ name is ne. before_last functions k name is ne)
-    (λ is. absurd (never is)) h
+    (λ is. absurd (never is)) other h
 
 -- a name that is not among the symbols is new
 pub symbol_is_new : (m : Module) (symbols globals functions : List Text) (t : Table SymbolSort) (uses : List SymbolUse) (k : Text) → SymbolsKnown m symbols globals functions t uses → (IsIn k symbols → ⊥)

@@ -90,3 +90,11 @@ module _ (Back : Input → Type 0) where
       let x = on c i a h.1 h.2 fore in
       let y = each_with F P stop g next none on (next c a) h.1 xs o h.3 x.0 in
       (y.0, λ k. let r = y.1 k in let l = x.1 r.0 in (l.0, l.1 xs r.1))
+
+  -- so it is where what comes before it tells nothing of it
+  pub all_with : {A C : Type 0} (F : Input → Type 0) (P : A → Type 0) (stop : C → Input → Bool) (g : C → Form A) (next : C → A → C) → ((c : C) (i : Input) → Keeps F (Same F) Back (g c) P i)
+      → (c : C) (i : Input) (xs : List A) (o : Input) → Follows stop (λ c. (g c).says) next c i xs o → F i → F o × (Back o → Back i × AllByRecursion P xs)
+  all_with F P stop g next on c i xs o h fore =
+      let x = each_with (λ _. F) (λ c. AllByRecursion P) stop g next (λ c. tt)
+      (λ c j a p said fore. let y = on c j a p said fore in (y.0, λ b. let z = y.1 b in (z.0, λ xs rest. (z.1, rest)))) c i xs o h fore in
+      (x.0.1, x.1)

@@ -153,6 +153,7 @@ module _ (s : Seat) where
     pub structs : Structs o.struct_names.names p.struct_names.names o.struct_uses p.struct_uses
     pub missing : p.missing ≡ None
     pub grown : Grown j p
+    pub forms : o.wide ≡ p.wide
 
   -- one token is left
   one_left : (ts : List Token) → length (rest_of (map (moved s.far) ts ++ s.tail)) ≤ length s.tail → End s.code s.last ts → (t : Token) × (ts ≡ t ∷ [])
@@ -191,6 +192,7 @@ module _ (s : Seat) where
         missing = ap (λ (x : Option ℕ). earlier x (first_missing q.locals q.local_uses)) beside.missing ∙ none_missing m.locals q.locals m.local_uses q.local_uses beside.own.sorts beside.own.uses_are
             (not_earlier m.missing (first_missing m.locals m.local_uses) (ap (λ (x : Input). x.missing) made ∙ none));
         grown = grown;
+        forms = subst (λ (x : Input). x.wide ≡ q.wide) made beside.forms;
       },
       ap rest_of one.1,
       beside.along.good,

@@ -30,7 +30,7 @@ use Rattle.ir_print_law.specs.Readings.{IsKey}
 use Rattle.ir_print_law.specs.Stands.{AreBlanks}
 use Rattle.ir_print.specs.Types.{type_text}
 use Rattle.ir_print_law.proofs.Words.{global_comes}
-use Rattle.ir_print_law.specs.Definitions.{AreDefined, defined_keys, parameter_key, parameter_keys, value_keys_of, block_keys, defined_globals}
+use Rattle.ir_print_law.specs.Definitions.{AreDefined, defined_keys, parameter_key, parameter_keys, value_keys_of, block_keys, defined_globals, declared_functions}
 use Rattle.ir_print_law.specs.Printable.{IsFunction}
 use Rattle.ir_print_law.proofs.Tables.{Begins, stays, begins_further}
 use Rattle.ir_print_law.specs.PartsAgain.{AreAlike, IsResultAgain}
@@ -99,22 +99,23 @@ module _ (m : Module) (f : Function) (named : AreNamed m f) (nobody_named : AreN
     defines_next = h;
   }
 
-  name_step : (name : Text) (number : ℕ) (i : Input) → (IsIn name far.globals → ⊥) → (IsIn name (defined_globals m) → ⊥)
+  name_step : (name : Text) (number : ℕ) (i : Input) → (IsIn name far.globals → ⊥) → (IsIn name (defined_globals m) → ⊥) → (IsIn name (declared_functions m) → ⊥)
       → SymbolsThen m f named (outside far) far.globals (far.functions ++ name ∷ []) name (symbol.Defined number) i
-  name_step name number i apart never = λ h e.
+  name_step name number i apart never other = λ h e.
       subst (λ (x : Text). SymbolsKnown m (far.symbols ++ x ∷ []) far.globals (far.functions ++ x ∷ []) (with_symbol (symbol.Defined number) i).symbols i.symbol_uses) e
       (function_defined m far.symbols far.globals far.functions i.symbols i.symbol_uses (spelled i.cursor) (symbol.Defined number) tt
-      (λ is. apart (subst (λ (x : Text). IsIn x far.globals) e is)) (λ is. never (subst (λ (x : Text). IsIn x (defined_globals m)) e is)) h)
+      (λ is. apart (subst (λ (x : Text). IsIn x far.globals) e is)) (λ is. never (subst (λ (x : Text). IsIn x (defined_globals m)) e is))
+      (λ is. absurd (other (subst (λ (x : Text). IsIn x (declared_functions m)) e is))) h)
 
   -- the name of the function
   name_reads : (number : ℕ) (i : Input) (name rest : Text) → AreBytes name → is_left_out m.wide name ≡ false → (IsIn name far.symbols → ⊥) → (IsIn name far.globals → ⊥) → (IsIn name (defined_globals m) → ⊥)
-      → Ready (known m f named (outside far)) 0 i (32 ∷ 64 ∷ (name_text blank.Kept name ++ 40 ∷ rest))
+      → (IsIn name (declared_functions m) → ⊥) → Ready (known m f named (outside far)) 0 i (32 ∷ 64 ∷ (name_text blank.Kept name ++ 40 ∷ rest))
       → Goes (known m f named (far_named name)) 0 (function_name (symbol.Defined number)) i (40 ∷ rest) (λ n o. slice_get o.symbols.names n ≡ Some name)
   unfolding function_name class_of
-  name_reads number i name rest own allowed none apart never ready =
+  name_reads number i name rest own allowed none apart never other ready =
       let e = (global_comes i.cursor (32 ∷ []) name (40 ∷ rest) refl own refl ready.stands).0 in
       let a = new_symbol_goes m f named (outside far) far.globals (far.functions ++ name ∷ []) (symbol.Defined number) name i (32 ∷ []) (40 ∷ rest) 0 own allowed none
-      (name_step name number i apart never) refl refl ready in
+      (name_step name number i apart never other) refl refl ready in
       let n = a.0 in
       let o = a.1 in
       (a.0, a.1, subst (λ (x : Kind). (function_name_by (symbol.Defined number) x).says i n o) (sym e) a.2, a.3, a.4, a.5)
@@ -134,10 +135,10 @@ module _ (m : Module) (f : Function) (named : AreNamed m f) (nobody_named : AreN
 
   pub definition_goes : (i : Input) (gap rest : Text) → IsFunction m f → AllByRecursion IsKey (parameter_keys f) → AllByRecursion (HasKeys m f named ops) f.blocks
       → AreBytes (name_at m.symbols f.symbol) → is_left_out m.wide (name_at m.symbols f.symbol) ≡ false → (IsIn (name_at m.symbols f.symbol) far.symbols → ⊥) → (IsIn (name_at m.symbols f.symbol) far.globals → ⊥)
-      → (IsIn (name_at m.symbols f.symbol) (defined_globals m) → ⊥) → length far.defines < 65535 → AreBlanks gap
+      → (IsIn (name_at m.symbols f.symbol) (defined_globals m) → ⊥) → (IsIn (name_at m.symbols f.symbol) (declared_functions m) → ⊥) → length far.defines < 65535 → AreBlanks gap
       → Ready (known m nobody nobody_named (outside far)) 0 i (gap ++ (function_text m f ++ rest)) → DefinitionGoes i rest
   unfolding item definition head parameters class_of word_kind keywords
-  definition_goes i gap rest is keys block_keys_are own allowed none apart never few blanks ready =
+  definition_goes i gap rest is keys block_keys_are own allowed none apart never other few blanks ready =
       let name = name_at m.symbols f.symbol in
       let bytes = flat_map (block_text m f.locals) f.blocks ++ 125 ∷ 10 ∷ rest in
       let afterwards = type_text m f.returned ++ after_result m f bytes in
@@ -151,7 +152,7 @@ module _ (m : Module) (f : Function) (named : AreNamed m f) (nobody_named : AreN
       let b = defined_result_reads m f v types f.returned p (32 ∷ []) name (40 ∷ after_open m f bytes) is.returned own refl refl a.3 in
       let q = b.1 in
       let number = length i.functions in
-      let c = name_reads (length i.functions) q name (after_open m f bytes) own allowed none apart never b.3 in
+      let c = name_reads (length i.functions) q name (after_open m f bytes) own allowed none apart never other b.3 in
       let r = c.1 in
       let d = sign_reads w 40 k.OpenRound r [] (after_open m f bytes) 0 0 refl refl refl (omega arith) c.3 in
       let s = d.1 in

@@ -19,7 +19,7 @@ use Rattle.ir_print.specs.Items.{function_text}
 use Rattle.ir_print.specs.Names.{name_at}
 use Rattle.ir_print_law.specs.Stands.{Stands, AreBlanks}
 use Rattle.ir_print_law.proofs.Words.{word_comes, seen}
-use Rattle.ir_print_law.specs.Definitions.{AreNew, defined_globals}
+use Rattle.ir_print_law.specs.Definitions.{AreNew, defined_globals, declared_functions}
 use Rattle.ir_print_law.specs.Printable.{IsFunction, IsPrintable, IsSymbol}
 use Rattle.ir_print_law.proofs.Tables.{begins_further, begins_itself}
 use Rattle.ir_print_law.specs.PartsAgain.{AreAlike}
@@ -70,9 +70,9 @@ module _ (m : Module) (is : IsPrintable m) (named : AreNamed m nobody) where
 
   pub functions_go : (fs : List Function) (far : Far) (i : Input) (gap : Text) → AreBlanks gap → past_gap false gap ≡ [] → past_gap false (10 ∷ []) ≡ [] → AllByRecursion (IsFunction m) fs
       → AllByRecursion (IsSymbol m.wide) (function_names m fs) → AreNew far.symbols (function_names m fs) → ((name : Text) → IsIn name far.globals → IsIn name far.symbols)
-      → ((name : Text) → IsIn name (function_names m fs) → IsIn name (defined_globals m) → ⊥) → length far.defines + length fs ≤ 65535 → outside far ≡ far
+      → ((name : Text) → IsIn name (function_names m fs) → IsIn name (defined_globals m) → ⊥) → ((name : Text) → IsIn name (function_names m fs) → IsIn name (declared_functions m) → ⊥) → length far.defines + length fs ≤ 65535 → outside far ≡ far
       → Ready (known m nobody named far) 0 i (gap ++ flat_map (function_text m) fs) → FunctionsGo fs far i
-  functions_go [] far i gap blanks past past_line are symbols new globals never few out ready =
+  functions_go [] far i gap blanks past past_line are symbols new globals never other few out ready =
       let here = subst (λ (t : Text). Ready (known m nobody named far) 0 i t) (append-nil gap) ready in (
         [],
         i,
@@ -94,18 +94,18 @@ module _ (m : Module) (is : IsPrintable m) (named : AreNamed m nobody) where
         },
         λ n later. tt,
       )
-  functions_go (f ∷ fs) far i gap blanks past past_line are symbols new globals never few out ready =
+  functions_go (f ∷ fs) far i gap blanks past past_line are symbols new globals never other few out ready =
       let name = name_at m.symbols f.symbol in
       let f_named = function_named m f is are.0 in
       let keys = function_keys m f are.0 in
       let outer = subst (λ (x : Far). Ready (known m nobody named x) 0 i (gap ++ flat_map (function_text m) (f ∷ fs))) (sym out) ready in
       let one = definition_goes m f f_named named (types_given m) (ops_given m f f_named) far i gap (flat_map (function_text m) fs) are.0 keys.0 keys.1 symbols.0.0 symbols.0.1 new.0
-      (λ g. new.0 (globals name g)) (never name (inl refl)) (omega (arith, few)) blanks outer in
+      (λ g. new.0 (globals name g)) (never name (inl refl)) (other name (inl refl)) (omega (arith, few)) blanks outer in
       let p = one.0 in
       let g = one.1 in
       let mid : Far = record (outside far) { symbols = far.symbols ++ name ∷ []; functions = far.functions ++ name ∷ []; defines = far.defines ++ g ∷ [] } in
       let size = length-append far.defines (g ∷ []) in
-      let next = functions_go fs mid p (10 ∷ []) refl past_line past_line are.1 symbols.1 new.1 (λ k h. in_first k far.symbols (name ∷ []) (globals k h)) (λ k h. never k (inr h)) (omega (arith, few, size)) refl one.3 in
+      let next = functions_go fs mid p (10 ∷ []) refl past_line past_line are.1 symbols.1 new.1 (λ k h. in_first k far.symbols (name ∷ []) (globals k h)) (λ k h. never k (inr h)) (λ k h. other k (inr h)) (omega (arith, few, size)) refl one.3 in
       let o = next.1 in
       let now = next.2 in
       let w = next.9 in

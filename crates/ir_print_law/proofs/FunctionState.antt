@@ -145,6 +145,8 @@ module _ {m : Module} (w : Outside m) where
     on_symbol = λ i is_call h. record { outside = w.reading.on_symbol i is_call h.outside; names = h.names; count = h.count; few = h.few; numbers = h.numbers; places = h.places };
     from_symbol = λ i is_call h. record { outside = w.reading.from_symbol i is_call h.outside; begins = h.begins; right = h.right; names = h.names };
     symbol_is = λ i is_call h. w.reading.symbol_is i is_call h.outside;
+    on_lost = λ i lost h. record { outside = w.reading.on_lost i lost h.outside; names = h.names; count = h.count; few = h.few; numbers = h.numbers; places = h.places };
+    from_lost = λ i lost h. record { outside = w.reading.from_lost i lost h.outside; begins = h.begins; right = h.right; names = h.names };
     on_local = λ i wanted h. use_holds g pending i wanted h;
     from_local = λ i wanted h. use_ends f t unnamed i wanted h;
     local_is = λ i wanted h. use_is f t unnamed i wanted h;

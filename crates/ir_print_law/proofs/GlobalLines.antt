@@ -1,5 +1,5 @@
 -- The line of a global is read as that global.
-use Rattle.std.proofs.Common.{◌≡◌, ℕ, ◌<◌, Bool, true, false, List, [], ◌∷◌, ◌++◌, length, Option, None, Some, refl, sym, ap, subst, ◌∙◌, arith, append_assoc, length-append}
+use Rattle.std.proofs.Common.{◌≡◌, ℕ, ◌<◌, Bool, true, false, List, [], ◌∷◌, ◌++◌, length, Option, None, Some, refl, sym, ap, ap₂, subst, ◌∙◌, arith, append_assoc, length-append}
 use Rattle.std.specs.Prelude.{codes, nat_lt, ◌==◌}
 use Rattle.std.specs.Fmt.{decimal}
 use Rattle.std.proofs.lemmas.Bool.Decides.{nat_tests}
@@ -17,19 +17,21 @@ use Rattle.ir_tokens.specs.declared.token.Kind.{Kind}
 use Rattle.ir_tokens.specs.declared.token.Kind.TheVariants as k
 use Rattle.ir_tokens.specs.Bytes.{Text, class_of}
 use Rattle.ir_tokens.specs.Keywords.{word_kind, keywords}
-use Rattle.ir_forms.specs.Cursor.{kind, spelled, begins_line}
+use Rattle.ir_forms.specs.Cursor.{kind, kind_after, next, same_kind, spelled, begins_line}
 use Rattle.ir_forms.specs.Intrinsics.{is_left_out}
 use Rattle.ir_forms.specs.declared.input.Input.{Input}
 use Rattle.ir_forms.specs.Input.{advanced, expect}
 use Rattle.ir_forms.specs.Names.{with_symbol}
-use Rattle.ir_forms.specs.Written.{word_of}
+use Rattle.ir_forms.specs.Written.{has_opaque, word_of}
 use Rattle.ir_forms.specs.declared.decorating.Spot.TheVariants as spot
 use Rattle.ir_forms.specs.declared.decorating.Trail.TheVariants as trail
 use Rattle.ir_forms.specs.Decorations.{begins_decoration}
 use Rattle.ir_forms.specs.declared.written.Word.{Word}
 use Rattle.ir_forms.specs.declared.written.FloatType.TheVariants as size
 use Rattle.ir_forms.specs.declared.written.Word.TheVariants as sort
-use Rattle.ir_text.specs.ItemsOfText.{global, is_constant, is_constant_by, initial, is_initial, item, item_by, with_global}
+use Rattle.ir_text.specs.DataItems.{begins_data_by, begins_data, begins_external}
+use Rattle.ir_text.specs.ItemsOfText.{global, global_by, value_by, is_constant, is_constant_by, initial, is_initial, item, item_by, with_global}
+use Rattle.ir_text.specs.Starts.{is_external}
 use Rattle.ir_print_law.specs.Fits.{FitsType, constant_shown}
 use Rattle.ir_print.specs.Items.{global_line, global_word}
 use Rattle.name_text.specs.Names.{name_text}
@@ -42,14 +44,16 @@ use Rattle.ir_print.specs.Types.{type_text}
 use Rattle.ir_print_law.specs.Readings.{after_constant}
 use Rattle.ir_print_law.proofs.FloatConstants.{float_number_said}
 use Rattle.ir_print_law.proofs.OperandsAgain.{constant_ready, constant_grows}
-use Rattle.ir_print_law.proofs.Constants.{are_digits, constants_are_read, wide}
-use Rattle.ir_print_law.proofs.Words.{global_comes, word_comes, number_comes}
+use Rattle.ir_print_law.proofs.Constants.{are_digits, constants_are_read, integer_types_are_read, wide}
+use Rattle.ir_print_law.proofs.Words.{global_comes, local_comes, word_comes, number_comes, sign_comes}
 use Rattle.ir_print_law.specs.Again.{IsGlobalAgain}
 use Rattle.ir_print_law.specs.Printable.{IsGlobal, IsInitial}
-use Rattle.ir_print_law.specs.Shapes.{Shape, Integer, Float, Pointer, Array, Empty, Struct, Named, Opaque, HasShape, word_of_shape}
+use Rattle.ir_print_law.specs.Definitions.{defined_structs}
+use Rattle.ir_print_law.specs.Parts.{IsType}
+use Rattle.ir_print_law.specs.Shapes.{Shape, Integer, Float, Pointer, Array, Empty, Struct, Named, Opaque, HasShape, IsWritten, word_of_shape, is_held_shape}
 use Rattle.ir_print_law.proofs.Tables.{stays, begins_itself}
 use Rattle.ir_print_law.proofs.State.{Invariant, Ready, IsLater}
-use Rattle.ir_print_law.proofs.Shown.{shape_stays, bits_read}
+use Rattle.ir_print_law.proofs.Shown.{shown, shape_stays, bits_read}
 use Rattle.ir_print_law.proofs.Steps.{word_skipped, word_seen, sign_reads, passed, unlike, grows_advanced}
 use Rattle.ir_print_law.proofs.Types.{Comes, EndsType, ends_type}
 use Rattle.ir_print_law.proofs.Defining.{global_defined}
@@ -58,6 +62,7 @@ use Rattle.ir_print_law.proofs.Known.{Far, AreNamed, known, SymbolsKnown}
 use Rattle.ir_print_law.proofs.Needs.{TypesRead}
 use Rattle.ir_print_law.proofs.NewNames.{SymbolsThen, new_symbol_goes}
 use Rattle.ir_print_law.proofs.Results.{begins_item, item_ungrouped}
+use Rattle.ir_print_law.proofs.Undropped.{and_last}
 
 below_most : (n : ℕ) → n < 4096 → nat_lt n 4096 ≡ true
 below_most n less = grind (arith, nat_tests)
@@ -148,6 +153,42 @@ initial_ends word k.Star e = absurd cc
 initial_ends word k.OpenRound e = absurd cc
 initial_ends word _ e = refl
 
+-- no data has a type that a global may hold
+held_begins : (wide opaque : Bool) (structs : List Text) (shape : Shape) (i : Input) (rest : Text) → IsWritten wide opaque structs shape → is_held_shape shape ≡ true → IsSeam rest
+    → Stands i.cursor (32 ∷ (shown false shape ++ rest)) → begins_data_by (kind i.cursor) (kind_after i.cursor) ≡ false
+unfolding class_of word_kind keywords kind kind_after next same_kind
+held_begins wide opaque structs (Integer bits) i rest own is seam at =
+    ap (λ (x : Kind). begins_data_by x (kind_after i.cursor)) (integer_types_are_read bits i (32 ∷ []) rest own.0 own.1 refl seam at).0
+held_begins wide opaque structs (Float size.Single) i rest own is seam at = ap (λ (x : Kind). begins_data_by x (kind_after i.cursor)) (word_comes i.cursor (32 ∷ []) (codes "float") rest refl refl seam at).0
+held_begins wide opaque structs (Float size.Double) i rest own is seam at = ap (λ (x : Kind). begins_data_by x (kind_after i.cursor)) (word_comes i.cursor (32 ∷ []) (codes "double") rest refl refl seam at).0
+held_begins wide opaque structs Opaque i rest own is seam at = ap (λ (x : Kind). begins_data_by x (kind_after i.cursor)) (word_comes i.cursor (32 ∷ []) (codes "ptr") rest refl refl seam at).0
+held_begins wide opaque structs (Pointer (Named name)) i rest own is seam at =
+    let a = local_comes i.cursor (32 ∷ []) name (42 ∷ rest) refl own.1.0 refl (subst (λ (t : Text). Stands i.cursor (32 ∷ t)) (append_assoc (37 ∷ name_text blank.Kept name) (42 ∷ []) rest) at) in
+    let b = sign_comes (next i.cursor) [] 42 rest k.Star refl refl refl a.3 in
+    ap₂ begins_data_by a.0 b.0
+held_begins wide opaque structs (Pointer (Integer bits)) i rest own is seam at = absurd cc
+held_begins wide opaque structs (Pointer (Float t)) i rest own is seam at = absurd cc
+held_begins wide opaque structs (Pointer (Pointer part)) i rest own is seam at = absurd cc
+held_begins wide opaque structs (Pointer (Array count part)) i rest own is seam at = absurd cc
+held_begins wide opaque structs (Pointer Empty) i rest own is seam at = absurd cc
+held_begins wide opaque structs (Pointer (Struct first more)) i rest own is seam at = absurd cc
+held_begins wide opaque structs (Pointer Opaque) i rest own is seam at = absurd cc
+held_begins wide opaque structs (Array count part) i rest own is seam at = absurd cc
+held_begins wide opaque structs Empty i rest own is seam at = absurd cc
+held_begins wide opaque structs (Struct first more) i rest own is seam at = absurd cc
+held_begins wide opaque structs (Named name) i rest own is seam at = absurd cc
+
+no_data : (m : Module) (shape : Shape) (held : ℕ) (i : Input) (rest : Text) → IsType m shape held → is_held_shape shape ≡ true → type_text m held ≡ shown false shape → IsSeam rest
+    → Stands i.cursor (32 ∷ (type_text m held ++ rest)) → begins_data i ≡ false
+unfolding begins_data
+no_data m shape held i rest own is shows seam at =
+    and_last i.wide (begins_data_by (kind i.cursor) (kind_after i.cursor))
+    (held_begins m.wide (has_opaque m.types) (defined_structs m) shape i rest own.2 is seam (subst (λ (t : Text). Stands i.cursor (32 ∷ (t ++ rest))) shows at))
+
+not_external : (x : Kind) (i : Input) → kind i.cursor ≡ x → is_external x ≡ false → begins_external i ≡ false
+unfolding begins_external
+not_external x i is none = and_last i.wide (is_external (kind i.cursor)) (ap is_external is ∙ none)
+
 pub word_seam : (c : Bool) (rest : Text) → IsSeam (global_word c ++ rest)
 unfolding class_of
 word_seam true rest = refl
@@ -184,7 +225,7 @@ module _ (m : Module) (f : Function) (named : AreNamed m f) (types : TypesRead m
 
   -- `=`, and whether the global is constant
   word_reads : (v : Invariant m f) (c : Bool) (i : Input) (rest : Text) → Ready v 0 i (global_word c ++ rest)
-      → (p : Input) × (o : Input) × ((expect k.Equals).says i tt p) × is_constant.says p c o × Ready v 0 o (32 ∷ rest) × Widens i o
+      → (p : Input) × (o : Input) × ((expect k.Equals).says i tt p) × is_constant.says p c o × Ready v 0 o (32 ∷ rest) × Widens i o × (begins_external p ≡ false)
   unfolding is_constant class_of word_kind keywords
   word_reads v true i rest ready =
       let a = sign_reads v 61 k.Equals i (32 ∷ []) (codes " constant " ++ rest) 0 0 refl refl refl (omega arith) ready in
@@ -193,7 +234,7 @@ module _ (m : Module) (f : Function) (named : AreNamed m f) (types : TypesRead m
       let b = word_skipped v (codes "constant") p (32 ∷ []) (32 ∷ rest) 0 0 refl refl refl (omega arith) a.3 in
       let o = b.1 in
       let plain = decorations_said spot.Global p (ap (begins_decoration spot.Global (begins_line p.cursor)) e) in
-      (a.1, b.1, a.2, (tt, p, plain, subst (λ (x : Kind). (is_constant_by x).says p true o) (sym e) (tt, o, b.2, (refl, refl))), b.3, widens_further i p o (grows_widens i p a.4) (grows_widens p o b.4))
+      (a.1, b.1, a.2, (tt, p, plain, subst (λ (x : Kind). (is_constant_by x).says p true o) (sym e) (tt, o, b.2, (refl, refl))), b.3, widens_further i p o (grows_widens i p a.4) (grows_widens p o b.4), not_external k.Constant p e refl)
   word_reads v false i rest ready =
       let a = sign_reads v 61 k.Equals i (32 ∷ []) (codes " global " ++ rest) 0 0 refl refl refl (omega arith) ready in
       let p = a.1 in
@@ -201,7 +242,7 @@ module _ (m : Module) (f : Function) (named : AreNamed m f) (types : TypesRead m
       let b = word_skipped v (codes "global") p (32 ∷ []) (32 ∷ rest) 0 0 refl refl refl (omega arith) a.3 in
       let o = b.1 in
       let plain = decorations_said spot.Global p (ap (begins_decoration spot.Global (begins_line p.cursor)) e) in
-      (a.1, b.1, a.2, (tt, p, plain, subst (λ (x : Kind). (is_constant_by x).says p false o) (sym e) (tt, o, b.2, (refl, refl))), b.3, widens_further i p o (grows_widens i p a.4) (grows_widens p o b.4))
+      (a.1, b.1, a.2, (tt, p, plain, subst (λ (x : Kind). (is_constant_by x).says p false o) (sym e) (tt, o, b.2, (refl, refl))), b.3, widens_further i p o (grows_widens i p a.4) (grows_widens p o b.4), not_external k.Global p e refl)
 
   pub global_goes : (g : Global) (i : Input) (gap rest : Text) → IsGlobal m g → AreBytes (name_at m.symbols g.symbol) → is_left_out m.wide (name_at m.symbols g.symbol) ≡ false
       → (IsIn (name_at m.symbols g.symbol) far.symbols → ⊥) → (IsIn (name_at m.symbols g.symbol) far.functions → ⊥) → length far.global_items < 4096 → Comes begins_item (10 ∷ rest) → AreBlanks gap
@@ -228,6 +269,7 @@ module _ (m : Module) (f : Function) (named : AreNamed m f) (types : TypesRead m
       let ends : EndsType (32 ∷ (constant_shown (word_of_shape shape) g.initial ++ 10 ∷ rest)) = (refl, λ j at. initial_ends (word_of_shape shape) (kind j.cursor) (initial_comes (word_of_shape shape) g.initial j rest is.3 at)) in
       let t = types.held w shape g.held q (32 ∷ []) constant_bytes 0 is_type is.2 refl ends ready_q in
       let r = t.1 in
+      let plain = no_data m shape g.held q (32 ∷ (constant_shown (word_of_shape shape) g.initial ++ 10 ∷ rest)) is_type is.2 (types.types_shown m shape g.held is_type.0 is_type.1) refl ready_q.stands in
       let bits_are : word_of t.0 ≡ word_of_shape shape = bits_read shape 64 t.0 r t.5 in
       let tested = initial_comes bits g.initial r rest is.3 t.3.stands in
       let c = constants_are_read bits g.initial r (fits bits g.initial is.3) (32 ∷ []) (10 ∷ rest) refl refl t.3.stands in
@@ -252,7 +294,7 @@ module _ (m : Module) (f : Function) (named : AreNamed m f) (types : TypesRead m
           a.0,
           p,
           (tt, i, (below_most number counted, refl), a.2),
-          (tt, b.0, b.2, (g.is_constant, q, b.3, (t.0, r, t.2, (g.initial, s, said_here, (tt, s, trail, (tt, s, ungrouped, (refl, refl))))))),
+          (tt, b.0, b.2, subst (λ (z : Bool). (global_by a.0 z).says b.0 tt o) (sym b.6) (g.is_constant, q, b.3, subst (λ (z : Bool). (value_by a.0 g.is_constant z).says q tt o) (sym plain) (t.0, r, t.2, (g.initial, s, said_here, (tt, s, trail, (tt, s, ungrouped, (refl, refl))))))),
         ),
         record {
           stands = ready_s.stands;

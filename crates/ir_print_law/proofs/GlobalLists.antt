@@ -25,7 +25,7 @@ use Rattle.ir_print_law.proofs.Results.{begins_item}
 use Rattle.ir_print_law.proofs.FunctionLists.{function_names}
 use Rattle.ir_print.specs.Names.{name_at}
 use Rattle.ir_print_law.specs.Stands.{Stands, AreBlanks}
-use Rattle.ir_print_law.specs.Definitions.{AreNew, defined_globals}
+use Rattle.ir_print_law.specs.Definitions.{AreNew, defined_globals, declared_functions}
 use Rattle.ir_print_law.specs.Printable.{IsFunction, IsGlobal, IsDeclare, IsPrintable, IsSymbol}
 use Rattle.ir_print_law.specs.PartsAgain.{AreAlike}
 use Rattle.ir_print_law.specs.Again.{IsGlobalAgain, IsDeclareAgain, IsFunctionAgain}
@@ -84,10 +84,10 @@ module _ (m : Module) (is : IsPrintable m) (named : AreNamed m nobody) (ds : Lis
       → AllByRecursion (IsDeclare m) ds → AllByRecursion (IsFunction m) fs → AllByRecursion (IsSymbol m.wide) (global_names m ys) → AllByRecursion (IsSymbol m.wide) (declared_names m ds ++ function_names m fs)
       → AreNew far.symbols (global_names m ys ++ (declared_names m ds ++ function_names m fs)) → ((name : Text) → IsIn name far.globals → IsIn name far.symbols) → far.functions ≡ []
       → ((name : Text) → IsIn name (declared_names m ds ++ function_names m fs) → IsIn name (defined_globals m) → ⊥)
-      → length far.global_items + length ys ≤ 4096 → length far.declares + length ds ≤ 65535 → length far.defines + length fs ≤ 65535 → outside far ≡ far
+      → ((name : Text) → IsIn name (function_names m fs) → IsIn name (declared_functions m) → ⊥) → length far.global_items + length ys ≤ 4096 → length far.declares + length ds ≤ 65535 → length far.defines + length fs ≤ 65535 → outside far ≡ far
       → Ready (known m nobody named far) 0 i (gap ++ (flat_map (global_line m) ys ++ functions_text m ds fs)) → GlobalsGo ys far i
-  globals_go [] far i gap blanks past past_line are declares functions own symbols new globals none never few few_declares few_functions out ready =
-      let h = declares_go m is named ds fs far i gap blanks past past_line declares functions symbols new globals never few_declares few_functions out ready in
+  globals_go [] far i gap blanks past past_line are declares functions own symbols new globals none never other few few_declares few_functions out ready =
+      let h = declares_go m is named ds fs far i gap blanks past past_line declares functions symbols new globals never other few_declares few_functions out ready in
       let w = h.10 in (
         h.0,
         h.1,
@@ -113,7 +113,7 @@ module _ (m : Module) (is : IsPrintable m) (named : AreNamed m nobody) (ds : Lis
         h.11,
         h.12,
       )
-  globals_go (y ∷ ys) far i gap blanks past past_line are declares functions own symbols new globals none never few few_declares few_functions out ready =
+  globals_go (y ∷ ys) far i gap blanks past past_line are declares functions own symbols new globals none never other few few_declares few_functions out ready =
       let name = name_at m.symbols y.symbol in
       let afterwards = flat_map (global_line m) ys ++ functions_text m ds fs in
       let here = subst (λ (t : Text). Ready (known m nobody named far) 0 i (gap ++ t)) (append_assoc (global_line m y) (flat_map (global_line m) ys) (functions_text m ds fs)) ready in
@@ -124,7 +124,7 @@ module _ (m : Module) (is : IsPrintable m) (named : AreNamed m nobody) (ds : Lis
       let mid : Far = record far { symbols = far.symbols ++ name ∷ []; globals = far.globals ++ name ∷ []; global_items = far.global_items ++ x ∷ [] } in
       let size = length-append far.global_items (x ∷ []) in
       let out_mid : outside mid ≡ mid = ap (λ (z : Far). record z { symbols = far.symbols ++ name ∷ []; globals = far.globals ++ name ∷ []; global_items = far.global_items ++ x ∷ [] }) out in
-      let next = globals_go ys mid p (10 ∷ []) refl past_line past_line are.1 declares functions own.1 symbols new.1 (λ k h. seen_too far.globals far.symbols name globals k h) none never
+      let next = globals_go ys mid p (10 ∷ []) refl past_line past_line are.1 declares functions own.1 symbols new.1 (λ k h. seen_too far.globals far.symbols name globals k h) none never other
       (omega (arith, few, size)) few_declares few_functions out_mid one.3 in
       let o = next.1 in
       let w = next.11 in

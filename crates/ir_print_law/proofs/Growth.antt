@@ -76,6 +76,8 @@ module _ (m : Module) where
     on_symbol = λ i is_call h. h;
     from_symbol = λ i is_call back. back;
     symbol_is = λ i is_call back. absurd back;
+    on_lost = λ i lost h. h;
+    from_lost = λ i lost back. back;
     on_local = λ i wanted h. h;
     from_local = λ i wanted back. back;
     local_is = λ i wanted back. absurd back;

@@ -19,14 +19,14 @@ use Rattle.ir_forms.specs.Written.{any_type, passed_type}
 use Rattle.ir_forms.specs.declared.decorating.Spot.TheVariants as spot
 use Rattle.ir_forms.specs.declared.written.Word.{Word}
 use Rattle.ir_forms.specs.declared.written.Word.TheVariants as sort
-use Rattle.ir_text.specs.ItemsOfText.{body_by, body, is_initial, initial, void_result, declared_result_by, declared_result, defined_result_by, defined_result}
+use Rattle.ir_text.specs.ItemsOfText.{begins_opaque, opaque_by, body_by, body, is_initial, initial, void_result, declared_result_by, declared_result, defined_result_by, defined_result}
 use Rattle.ir_print_law.specs.Parts.{IsType, IsVoid}
 use Rattle.ir_print_law.specs.Printable.{IsPassed, IsAnyType, IsInitial}
-use Rattle.ir_print_law.specs.Shapes.{Shape, is_struct_shape}
+use Rattle.ir_print_law.specs.Shapes.{Shape, Empty, is_struct_shape}
 use Rattle.ir_print_law.proofs.Decorations.{decorations_pass}
 use Rattle.ir_print_law.proofs.Forms.{Keeps, Same, stepped, where_true}
 use Rattle.ir_print_law.proofs.Operands.{AreBits, number_fits, float_kept, single_fits, double_fits}
-use Rattle.ir_print_law.proofs.Passes.{skip_passes}
+use Rattle.ir_print_law.proofs.Passes.{skip_passes, lost_passes}
 use Rattle.ir_print_law.proofs.Reading.{Reading}
 use Rattle.ir_print_law.proofs.Tokens.{intern_goes}
 use Rattle.ir_print_law.proofs.TypesThat.{type_of, passed_of, any_type_keeps, passed_keeps, struct_body_keeps}
@@ -103,8 +103,18 @@ module _ {m : Module} (r : Reading m) where
 
   -- ---- struct types
 
+  opaque_by_keeps : (t : Bool) (i : Input) → Keeps r.Fore (Same r.Fore) r.Back (opaque_by t) (λ n. (shape : Shape) × IsType m shape n × (is_struct_shape shape ≡ true)) i
+  opaque_by_keeps false i n o h f = absurd h
+  opaque_by_keeps true i n o h f =
+      let t = h.2 in
+      let a = lost_passes r i t.0 t.1 t.2 f in
+      let b = skip_passes r t.1 h.0 h.1 t.3 a.0 in
+      let c = intern_goes r type.EmptyStruct h.1 tt n o h.3 b.0 in
+      (c.0, λ back. let cb = c.1 back in ((a.1 (b.1 cb.0).0).0, (Empty, (cb.1.0, omega arith, tt), refl)))
+
   body_by_keeps : (x : Kind) (i : Input) → Keeps r.Fore (Same r.Fore) r.Back (body_by x) (λ n. (shape : Shape) × IsType m shape n × (is_struct_shape shape ≡ true)) i
   body_by_keeps k.OpenBrace i = struct_body_keeps r i
+  body_by_keeps k.LeftOut i = opaque_by_keeps (begins_opaque i) i
   body_by_keeps k.Less i = λ a o h f. absurd h
   body_by_keeps _ i = λ a o h f. absurd h
 

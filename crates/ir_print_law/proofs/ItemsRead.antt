@@ -1,9 +1,11 @@
 -- Struct types, globals and declared functions, as they are read.
-use Rattle.std.proofs.Common.{◌≡◌, ℕ, Bool, true, false, List, [], ◌∷◌, ◌++◌, length, Option, refl, sym, ap, subst, ◌∙◌, append_assoc}
+use Rattle.std.proofs.Common.{◌≡◌, ℕ, Bool, true, false, List, [], ◌∷◌, ◌++◌, length, refl, sym, ap, subst, ◌∙◌, append_assoc, inl}
 use Rattle.std.specs.Prelude.{nat_lt}
 use Rattle.std.specs.List.{AllByRecursion}
 use Rattle.std.proofs.lemmas.List.{append-nil}
 use Rattle.lemmas.specs.All.{all_join}
+use Rattle.grammar.specs.Grammar.{look, ◌>>=◌, ◌>>◌}
+use Rattle.ir_ast.specs.declared.ir_type.IrType.TheVariants as type
 use Rattle.ir_ast.specs.declared.function.Function.{Function}
 use Rattle.ir_ast.specs.declared.items_of_module.Declare.{Declare}
 use Rattle.ir_ast.specs.declared.items_of_module.Global.{Global}
@@ -18,13 +20,15 @@ use Rattle.ir_forms.specs.Cursor.{kind, spelled}
 use Rattle.ir_ast.specs.RuntimeNames.{runtime_of}
 use Rattle.ir_forms.specs.declared.input.Input.{Input}
 use Rattle.ir_forms.specs.declared.written.WrittenType.{WrittenType}
-use Rattle.ir_forms.specs.Input.{Form}
+use Rattle.ir_forms.specs.Input.{Form, skip, expect}
 use Rattle.ir_forms.specs.Names.{with_number_taken}
+use Rattle.ir_forms.specs.Outside.{lost_here}
 use Rattle.ir_forms.specs.Written.{has_opaque, is_held, word_of}
 use Rattle.ir_forms.specs.declared.decorating.Spot.TheVariants as spot
 use Rattle.ir_forms.specs.declared.decorating.Trail.TheVariants as trail
 use Rattle.ir_forms.specs.declared.written.Word.{Word}
-use Rattle.ir_text.specs.ItemsOfText.{struct_type, with_struct_type, global, with_global, function_name_by, function_name, declaration, declare_by, names_left_out, with_declare}
+use Rattle.ir_text.specs.DataItems.{begins_data, begins_external, with_outside, data_item}
+use Rattle.ir_text.specs.ItemsOfText.{struct_type, with_struct_type, is_constant, global_value, value_by, global_by, global_afterwards, global, with_global, function_name_by, function_name, declaration, declare_by, names_left_out, with_declare}
 use Rattle.ir_text.specs.Read.{module_of}
 use Rattle.ir_print.specs.Names.{name_at}
 use Rattle.ir_print_law.specs.Definitions.{defined_structs}
@@ -34,12 +38,13 @@ use Rattle.ir_print_law.proofs.Decorations.{decorations_pass, past_brackets_pass
 use Rattle.ir_print_law.proofs.Forms.{Keeps, Any}
 use Rattle.ir_print_law.proofs.FunctionsRead.{head_end_keeps}
 use Rattle.ir_print_law.proofs.ItemTypes.{IsFirst, body_keeps, initial_keeps, declared_result_keeps}
-use Rattle.ir_print_law.proofs.LinesRead.{is_constant_passes, declared_parameters_keep}
+use Rattle.ir_print_law.proofs.LinesRead.{is_constant_passes, past_item_passes, declared_parameters_keep}
 use Rattle.ir_print_law.proofs.Looks.{bits_are, held_is}
-use Rattle.ir_print_law.proofs.ModuleItems.{struct_pending, global_pending, declare_pending, new_struct_keeps, named_at_end, new_global_keeps, new_declare_keeps, struct_added, global_added, declare_added}
+use Rattle.ir_print_law.proofs.ModuleItems.{struct_pending, global_pending, declare_pending, new_struct_keeps, named_at_end, new_global_keeps, new_declare_keeps, struct_added, global_added, declare_added, data_added, leads_data, data_named}
 use Rattle.ir_print_law.proofs.ModuleState.{Pending, no_one, Stands, Kept, kept_of, Leads, leads_kept, reading_of, Made, between}
 use Rattle.ir_print_law.proofs.Operands.{AreBits}
-use Rattle.ir_print_law.proofs.Passes.{skip_passes, expect_passes}
+use Rattle.ir_print_law.proofs.Passes.{Passes, skip_passes, expect_passes, lost_passes}
+use Rattle.ir_print_law.proofs.Tokens.{intern_goes}
 use Rattle.ir_print_law.proofs.TypesThat.{IsFit, held_keeps, type_of}
 
 -- ---- items that were made
@@ -139,26 +144,42 @@ module _ (e : Input) (Good : Function → Type 0) where
       let fits = subst AreBits (sym bits) (bits_written m.wide (has_opaque m.types) (defined_structs m) shape own.is_written) in
       (shape, type_of m w shape own, sym (held_is m 64 w shape own) ∙ fit.1, subst (λ (b : Word). IsInitial b x) bits (first fits))
 
-  pub global_goes : Goes e Good global
-  unfolding global
-  global_goes i made a o h f =
-      let r = reading_of e (λ (x : Kept). x ≡ between made) (global_pending h.0) in
-      let named = h.2 in
-      let same = named.2.1 in
-      let few : nat_lt (length named.1.globals) 4096 ≡ true = ap (λ (j : Input). nat_lt (length j.globals) 4096) (sym same) ∙ named.2.0 in
-      let t1 = h.3 in
-      let t2 = t1.3 in
-      let t3 = t2.3 in
-      let t4 = t3.3 in
+  declared_grows : (made : Made) (d : Declare) → IsDeclare (module_of e) d → Grown (module_of e) Good made (record made { declares = made.declares ++ d ∷ [] })
+  declared_grows made d is = record {
+    structs = grows_not (IsStructType (module_of e)) made.structs;
+    globals = grows_not (IsGlobal (module_of e)) made.globals;
+    declares = grows_by (IsDeclare (module_of e)) made.declares d is;
+    functions = grows_not Good made.functions;
+  }
+
+  -- a name is taken for that of a global, and these items are made
+  abbrev IsPending : ℕ → Made → Input → Type 0
+  IsPending s made i = Stands (global_pending s) i × (kept_of i ≡ between made)
+
+  -- what follows goes on to further items
+  abbrev Follows : ℕ → Form (Unit {0}) → Type 0
+  Follows s form =
+      (i : Input) (made : Made) (a : Unit {0}) (o : Input) → form.says i a o → IsPending s made i
+      → (later : Made) × IsBetween later o × (Leads e o → Leads e i × Grown (module_of e) Good made later)
+
+  -- a form that preserves what is known, and then one that goes on
+  follows : {A : Type 0} (s : ℕ) (g : Form A) (f : A → Form (Unit {0})) → ((made : Made) → Passes (reading_of e (λ (x : Kept). x ≡ between made) (global_pending s)) g)
+      → ((a : A) → Follows s (f a)) → Follows s (g >>= f)
+  follows s g f passes goes i made a o h fore =
+      let b = passes made i h.0 h.1 h.2 fore in
+      let x = goes h.0 h.1 made a o h.3 b.0 in
+      (x.0, x.1, λ back. let c = x.2 back in ((b.1 c.0).0, c.1))
+
+  value_goes : (s : ℕ) (is_fixed : Bool) → Follows s (global_value s is_fixed)
+  value_goes s is_fixed i made a o h f =
+      let r = reading_of e (λ (x : Kept). x ≡ between made) (global_pending s) in
+      let t4 = h.3 in
       let t5 = t4.3 in
       let t6 = t5.3 in
-      let g : Global = record { symbol = h.0; is_constant = t2.0; held = t3.0.id; initial = t4.0 } in
+      let g : Global = record { symbol = s; is_constant = is_fixed; held = h.0.id; initial = t4.0 } in
       let later : Made = record made { globals = made.globals ++ g ∷ [] } in
-      let b0 = new_global_keeps e (λ (x : Kept). x ≡ between made) named.1 few h.0 h.1 named.3 (subst (IsBetween made) same f) in
-      let b1 = expect_passes r k.Equals h.1 t1.0 t1.1 t1.2 b0.0 in
-      let b2 = is_constant_passes r t1.1 t2.0 t2.1 t2.2 b1.0 in
-      let b3 = held_keeps r t2.1 t3.0 t3.1 t3.2 b2.0 in
-      let b4 = initial_keeps r (word_of t3.0) t3.1 t4.0 t4.1 t4.2 b3.0 in
+      let b3 = held_keeps r i h.0 h.1 h.2 f in
+      let b4 = initial_keeps r (word_of h.0) h.1 t4.0 t4.1 t4.2 b3.0 in
       let b5 = trailing_passes r trail.Global t4.1 t5.0 t5.1 t5.2 b4.0 in
       let b6 = decorations_pass r spot.GlobalEnd t5.1 t6.0 t6.1 t6.2 b5.0 in
       let there : IsBetween later (with_global g t6.1) = (global_added g t6.1 b6.0.0, ap (λ (x : Kept). record x { globals = x.globals ++ g ∷ [] }) b6.0.1) in (
@@ -168,17 +189,71 @@ module _ (e : Input) (Good : Function → Type 0) where
             let c6 = b6.1 (leads_kept e t6.1 (kept_of (with_global g t6.1)) (subst (Leads e) (sym t6.3.1) back)) in
             let c5 = b5.1 c6.0 in
             let c4 = b4.1 c5.0 in
-            let c3 = b3.1 c4.0 in
-            let c0 = b0.1 (b1.1 (b2.1 c3.0).0).0 in (
-              subst (Leads e) (sym same) c0.0,
+            let c3 = b3.1 c4.0 in (
+              c3.0,
               record {
                 structs = grows_not (IsStructType (module_of e)) made.structs;
-                globals = grows_by (IsGlobal (module_of e)) made.globals g (global_of h.0 t2.0 t3.0 t4.0 c3.1 c4.1);
+                globals = grows_by (IsGlobal (module_of e)) made.globals g (global_of s is_fixed h.0 t4.0 c3.1 c4.1);
                 declares = grows_not (IsDeclare (module_of e)) made.declares;
                 functions = grows_not Good made.functions;
               },
             ),
       )
+
+  -- the name of data is declared
+  data_goes : (s : ℕ) → Follows s (data_item s)
+  unfolding data_item
+  data_goes s i made a o h f =
+      let r = reading_of e (λ (x : Kept). x ≡ between made) (global_pending s) in
+      let same : i ≡ h.1 = h.2.2.1 ∙ h.2.3.1 in
+      let before : IsPending s made h.1 = subst (IsPending s made) same f in
+      let number = length h.1.declares in
+      let few : nat_lt number 65535 ≡ true = ap (λ (j : Input). nat_lt (length j.declares) 65535) (sym same) ∙ h.2.2.0 in
+      let t1 = h.3.2 in
+      let t2 = h.3.3 in
+      let b1 = lost_passes r h.1 t1.0 t1.1 t1.2 before in
+      let b2 = past_item_passes r t1.1 h.3.0 h.3.1 t1.3 b1.0 in
+      let b3 = intern_goes r type.Void h.3.1 tt t2.0 t2.1 t2.2 b2.0 in
+      let d : Declare = record { symbol = s; runtime = runtime_of (name_at t2.1.symbols.names s); returned = t2.0; parameters = [] } in
+      let later : Made = record made { declares = made.declares ++ d ∷ [] } in
+      let counted : length t2.1.declares ≡ number = ap (λ (x : Kept). length x.declares) (b3.0.1 ∙ sym before.1) in
+      let there : IsBetween later (with_outside s number t2.0 t2.1) = (data_added s number t2.0 t2.1 counted few b3.0.0, ap (λ (x : Kept). record x { declares = x.declares ++ d ∷ [] }) b3.0.1) in (
+        later,
+        subst (IsBetween later) t2.3.1 there,
+        λ back.
+            let c4 = leads_data e s number t2.0 t2.1 (subst (Leads e) (sym t2.3.1) back) in
+            let c3 = b3.1 c4 in
+            let c1 = b1.1 (b2.1 c3.0).0 in
+            (subst (Leads e) (sym same) c1.0, declared_grows made d (inl c3.1.0, tt, ap runtime_of (data_named e s t2.1 b3.0.0 c4))),
+      )
+
+  value_by_goes : (s : ℕ) (is_fixed t : Bool) → Follows s (value_by s is_fixed t)
+  value_by_goes s is_fixed true = data_goes s
+  value_by_goes s is_fixed false = value_goes s is_fixed
+
+  by_goes : (s : ℕ) (t : Bool) → Follows s (global_by s t)
+  by_goes s true =
+      follows s lost_here (λ _. skip >> (is_constant >> data_item s)) (λ made. lost_passes (reading_of e (λ (x : Kept). x ≡ between made) (global_pending s)))
+      (λ _. follows s skip (λ _. is_constant >> data_item s) (λ made. skip_passes (reading_of e (λ (x : Kept). x ≡ between made) (global_pending s)))
+      (λ _. follows s is_constant (λ _. data_item s) (λ made. is_constant_passes (reading_of e (λ (x : Kept). x ≡ between made) (global_pending s))) (λ _. data_goes s)))
+  by_goes s false =
+      follows s is_constant (λ t. look begins_data (value_by s t)) (λ made. is_constant_passes (reading_of e (λ (x : Kept). x ≡ between made) (global_pending s)))
+      (λ t i made a o h f. value_by_goes s t (begins_data i) i made a o h f)
+
+  afterwards_goes : (s : ℕ) → Follows s (global_afterwards s)
+  afterwards_goes s =
+      follows s (expect k.Equals) (λ _. look begins_external (global_by s)) (λ made. expect_passes (reading_of e (λ (x : Kept). x ≡ between made) (global_pending s)) k.Equals)
+      (λ _ i made a o h f. by_goes s (begins_external i) i made a o h f)
+
+  pub global_goes : Goes e Good global
+  unfolding global
+  global_goes i made a o h f =
+      let named = h.2 in
+      let same = named.2.1 in
+      let few : nat_lt (length named.1.globals) 4096 ≡ true = ap (λ (j : Input). nat_lt (length j.globals) 4096) (sym same) ∙ named.2.0 in
+      let b0 = new_global_keeps e (λ (x : Kept). x ≡ between made) named.1 few h.0 h.1 named.3 (subst (IsBetween made) same f) in
+      let x = afterwards_goes h.0 h.1 made a o h.3 b0.0 in
+      (x.0, x.1, λ back. let c = x.2 back in (subst (Leads e) (sym same) (b0.1 c.0).0, c.1))
 
   -- ---- declared functions
 
@@ -289,11 +364,6 @@ module _ (e : Input) (Good : Function → Type 0) where
               let c1 = b1.1 c2.0 in
               let runtime = ap runtime_of (sym (function_named (symbol.Declared number) s2.1 s3.0 s3.1 s3.2 c3)) in (
                 subst (Leads e) (sym same) c1.0,
-                record {
-                  structs = grows_not (IsStructType m) made.structs;
-                  globals = grows_not (IsGlobal m) made.globals;
-                  declares = grows_by (IsDeclare m) made.declares d (c2.1, c5.1, runtime);
-                  functions = grows_not Good made.functions;
-                },
+                declared_grows made d (c2.1, c5.1, runtime),
               ),
         )

@@ -5,7 +5,6 @@ use Rattle.std.specs.List.{AllByRecursion}
 use Rattle.std.specs.Str.{bytes_eq}
 use Rattle.std.proofs.lemmas.Slice.Eq.{bytes_eq-Decides}
 use Rattle.lemmas.specs.All.{all_join, all_so}
-use Rattle.lemmas.specs.Bools.{not_true}
 use Rattle.lemmas.specs.Lists.{IsIn}
 use Rattle.ir_ast.specs.Names.{place_of, number_of, numbered}
 use Rattle.ir_ast.specs.declared.function.Function.{Function}
@@ -33,8 +32,9 @@ use Rattle.ir_text.specs.Late as late
 use Rattle.ir_forms.specs.Intrinsics.{is_left_out}
 use Rattle.name_text.specs.Readings.{AreBytes}
 use Rattle.ir_print_law.specs.Readings.{IsKey}
-use Rattle.ir_print_law.specs.Definitions.{defined_structs, defined_globals, used_keys, used_symbols}
+use Rattle.ir_print_law.specs.Definitions.{IsUsed, defined_structs, defined_globals, declared_functions, used_keys}
 use Rattle.ir_print_law.proofs.State.{Invariant}
+use Rattle.ir_print_law.proofs.Used.{is_defined, used_stands}
 use Rattle.ir_print_law.proofs.Named.{IsEven, sort_at, sort_kept, sort_defined, sort_defined_other, even_mentioned, numbered_stays, place_numbered}
 
 -- ---- lists
@@ -96,7 +96,7 @@ abbrev pub IsStructUse : Module → List Text → StructUse → Type 0
 IsStructUse m names u = (name : Text) × IsIn name (defined_structs m) × (place_of name names ≡ Some u.name)
 
 abbrev pub IsSymbolUse : Module → List Text → SymbolUse → Type 0
-IsSymbolUse m names u = (name : Text) × IsIn name (used_symbols m u.is_call) × (place_of name names ≡ Some u.symbol)
+IsSymbolUse m names u = (name : Text) × IsUsed m u.is_call name × (place_of name names ≡ Some u.symbol)
 
 abbrev pub IsLocalUse : Function → List Text → LocalUse → Type 0
 IsLocalUse f names u = (key : Text) × IsIn key (used_keys f u.wanted) × (place_of key names ≡ Some u.value)
@@ -117,6 +117,7 @@ pub record SymbolsKnown (m : Module) (symbols globals functions : List Text) (t 
   pub are_functions : Tells (λ x. IsIn x functions) (is_right true) t
   pub new : Tells (λ name. IsIn name symbols → ⊥) (λ s. not (is_symbol s)) t
   pub no_function : Tells (λ x. IsIn x (defined_globals m)) (λ s. not (is_function s)) t
+  pub no_defined : Tells (λ x. IsIn x (declared_functions m)) (λ s. not (is_defined s)) t
   pub uses_so : AllByRecursion (IsSymbolUse m t.names) uses
 
 pub record LocalsKnown (f : Function) (seen values labels : List Text) (pending : List (Text × ℕ)) (t : Table LocalSort) (uses : List LocalUse) : Type 0 where
@@ -176,10 +177,11 @@ symbols_mentioned m symbols globals functions t uses k h = record {
   are_functions = tells_mentioned (λ x. IsIn x functions) (is_right true) t k symbol.Unknown h.even refl h.are_functions;
   new = tells_mentioned (λ name. IsIn name symbols → ⊥) (λ s. not (is_symbol s)) t k symbol.Unknown h.even refl h.new;
   no_function = tells_mentioned (λ x. IsIn x (defined_globals m)) (λ s. not (is_function s)) t k symbol.Unknown h.even refl h.no_function;
+  no_defined = tells_mentioned (λ x. IsIn x (declared_functions m)) (λ s. not (is_defined s)) t k symbol.Unknown h.even refl h.no_defined;
   uses_so = all_so (IsSymbolUse m t.names) (IsSymbolUse m (numbered k t.names)) uses (λ u x. (x.0, x.1, numbered_stays k x.0 t.names u.symbol x.2)) h.uses_so;
 }
 
-pub symbol_used : (m : Module) (symbols globals functions : List Text) (t : Table SymbolSort) (uses : List SymbolUse) (k : Text) (is_call : Bool) (start size : ℕ) → IsIn k (used_symbols m is_call)
+pub symbol_used : (m : Module) (symbols globals functions : List Text) (t : Table SymbolSort) (uses : List SymbolUse) (k : Text) (is_call : Bool) (start size : ℕ) → IsUsed m is_call k
     → SymbolsKnown m symbols globals functions t uses
     → SymbolsKnown m symbols globals functions (mentioned k symbol.Unknown t) (uses ++ record { symbol = number_of k t.names; is_call = is_call; start = start; length = size } ∷ [])
 symbol_used m symbols globals functions t uses k is_call start size is_in h =
@@ -190,6 +192,7 @@ symbol_used m symbols globals functions t uses k is_call start size is_in h =
       are_functions = g.are_functions;
       new = g.new;
       no_function = g.no_function;
+      no_defined = g.no_defined;
       uses_so = all_join (IsSymbolUse m (numbered k t.names)) uses ((record { symbol = number_of k t.names; is_call = is_call; start = start; length = size }) ∷ []) g.uses_so ((k, is_in, place_numbered k t.names), tt);
     }
 
@@ -224,7 +227,7 @@ local_used f seen values labels pending t uses k wanted start is_in h =
 -- what is used is named as it is read
 pub record AreNamed (m : Module) (f : Function) : Type 0 where
   pub is_key : (wanted : Wanted) (key : Text) → IsIn key (used_keys f wanted) → IsKey key
-  pub is_symbol : (is_call : Bool) (name : Text) → IsIn name (used_symbols m is_call) → AreBytes name × (is_left_out m.wide name ≡ false)
+  pub is_symbol : (is_call : Bool) (name : Text) → IsUsed m is_call name → AreBytes name × (is_left_out m.wide name ≡ false)
 
 abbrev pub known : (m : Module) (f : Function) → AreNamed m f → (far : Far) → Invariant m f
 known m f named far = record {
@@ -236,5 +239,5 @@ known m f named far = record {
   on_struct = λ i is_in h. (struct_used m far.structs i.struct_names i.struct_uses _ _ is_in h.0, h.1, h.2, h.3);
   on_symbol = λ i is_call is_in h. (h.0, symbol_used m far.symbols far.globals far.functions i.symbols i.symbol_uses _ is_call _ _ is_in h.1, h.2, h.3);
   on_local = λ i wanted is_in h. (h.0, h.1, local_used f far.seen far.values far.labels far.pending i.locals i.local_uses _ wanted _ is_in h.2, h.3);
-  no_function = λ i name is_in h. not_true _ (h.1.no_function name is_in);
+  may_stand = λ i name used h. used_stands m (sort_at i.symbols name) name used (h.1.no_function name) (h.1.no_defined name);
 }

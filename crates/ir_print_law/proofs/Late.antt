@@ -1,10 +1,9 @@
 -- Each name that is used in the function's own text is right in the module, where it is right in the whole text.
-use Rattle.std.proofs.Common.{◌≡◌, ℕ, Bool, true, false, not, List, [], ◌∷◌, inl, inr, Option, None, Some, refl, sym, ap, subst, ◌∙◌}
-use Rattle.std.specs.Prelude.{slice_get, find, option_map, option_and_then, ◌&&◌}
+use Rattle.std.proofs.Common.{◌≡◌, ℕ, Bool, true, false, not, List, [], ◌∷◌, inl, inr, Option, None, Some, refl, sym, ap, ap₂, subst, ◌∙◌}
+use Rattle.std.specs.Prelude.{slice_get, find, option_map, option_and_then}
 use Rattle.lemmas.specs.Lists.{IsIn}
-use Rattle.ir_ast.specs.Names.{place_of}
+use Rattle.ir_ast.specs.Names.{place_of, name_at}
 use Rattle.ir_ast.specs.declared.items_of_module.SymbolSort.{SymbolSort}
-use Rattle.ir_ast.specs.declared.items_of_module.SymbolSort.TheVariants as symbol
 use Rattle.ir_ast.specs.declared.module.Module.{Module}
 use Rattle.ir_tokens.specs.Bytes.{Text}
 use Rattle.ir_forms.specs.declared.input.Input.{Input}
@@ -12,11 +11,14 @@ use Rattle.ir_forms.specs.declared.uses.StructUse.{StructUse}
 use Rattle.ir_forms.specs.declared.uses.SymbolUse.{SymbolUse}
 use Rattle.ir_text.specs.Anew.{with_sorts, late_anew}
 use Rattle.copies.specs.Tables.{tables_of}
-use Rattle.ir_text.specs.Late.{is_right, is_right_symbol, is_function_operand, is_struct, is_right_struct, operand_fault, function_operand, wrong_symbol, wrong_struct}
+use Rattle.ir_text.specs.Late.{is_right, may_use, is_right_symbol, is_function_operand, is_struct, is_right_struct, operand_fault, function_operand, wrong_symbol, wrong_struct}
 use Rattle.ir_print_law.specs.Places.{symbol_in, AreRight}
 use Rattle.ir_print_law.proofs.Tables.{Begins, stays, place_stays}
 use Rattle.ir_print_law.proofs.Seats.{Seat}
 use Rattle.ir_print_law.proofs.Function.{Ended}
+use Rattle.ir_print_law.proofs.AnewTables.{place_is_there}
+use Rattle.ir_print_law.proofs.Operands.{named_at}
+use Rattle.ir_print_law.proofs.Used.{none_used, right_use}
 
 none_found : {A : Type 0} (p : A → Bool) (xs : List A) → ((x : A) → IsIn x xs → p x ≡ false) → find p xs ≡ None
 none_found p [] h = refl
@@ -30,17 +32,6 @@ placed test none sorts name names more n b at (Some q) e is =
     let same : Some n ≡ Some q = sym at ∙ place_stays name names more q b e in
     let number : n ≡ q = cc in
     (ap (slice_get sorts) number, ap Some (sym number))
-
-operand_not : (x : Option SymbolSort) → is_right false x ≡ true → is_right true x ≡ false
-operand_not None e = absurd cc
-operand_not (Some symbol.Unknown) e = absurd cc
-operand_not (Some (symbol.Global g)) e = refl
-operand_not (Some (symbol.Declared d)) e = absurd cc
-operand_not (Some (symbol.Defined f)) e = absurd cc
-
-not_operand : (is_call : Bool) (x : Option SymbolSort) → is_right is_call x ≡ true → (not is_call && is_right true x) ≡ false
-not_operand true x e = refl
-not_operand false x e = operand_not x e
 
 struct_stays : (sorts more : List (Option ℕ)) (n : ℕ) → Begins sorts more → (x : Option (Option ℕ)) → slice_get sorts n ≡ x → is_struct x ≡ true → is_struct (slice_get more n) ≡ true
 struct_stays sorts more n b None at e = absurd cc
@@ -57,12 +48,13 @@ module _ (s : Seat) (m : Module) (j o p : Input) (ended : Ended s j o p) (symbol
   begins_sorts : Begins m.struct_of p.struct_names.sorts
   begins_sorts = subst (λ (l : List (Option ℕ)). Begins l p.struct_names.sorts) sorts ended.grown.3
 
-  symbol_right : (u : SymbolUse) → IsIn u p.symbol_uses → is_right u.is_call (slice_get m.sorts u.symbol) ≡ true
+  symbol_right : (u : SymbolUse) → IsIn u p.symbol_uses → may_use p.wide u.is_call (slice_get m.sorts u.symbol) (name_at p.symbols.names u.symbol) ≡ true
   symbol_right u there =
       let r = ended.symbols.used u there in
-      let own : is_right u.is_call (symbol_in m r.0) ≡ true = subst (λ (c : Bool). is_right c (symbol_in m r.0) ≡ true) r.3 (right.symbols r.0 r.1 r.2 r.4) in
-      let at = placed (is_right u.is_call) refl m.sorts r.0 m.symbols p.symbols.names u.symbol begins_symbols r.5 (place_of r.0 m.symbols) refl own in
-      ap (is_right u.is_call) at.0 ∙ own
+      let own : may_use o.wide u.is_call (symbol_in m r.0) r.0 ≡ true = subst (λ (c : Bool). may_use o.wide c (symbol_in m r.0) r.0 ≡ true) r.3 (right.symbols r.0 r.1 r.2 r.4) in
+      let at = placed (λ (x : Option SymbolSort). may_use o.wide u.is_call x r.0) (none_used o.wide u.is_call r.0) m.sorts r.0 m.symbols p.symbols.names u.symbol begins_symbols r.5 (place_of r.0 m.symbols) refl own in
+      let its = named_at p.symbols.names u.symbol r.0 (place_is_there r.0 p.symbols.names u.symbol r.5) in
+      ap₂ (λ (wide : Bool) (name : Text). may_use wide u.is_call (slice_get m.sorts u.symbol) name) (sym ended.forms) its ∙ ap (λ (x : Option SymbolSort). may_use o.wide u.is_call x r.0) at.0 ∙ own
 
   struct_right : (u : StructUse) → IsIn u p.struct_uses → is_struct (slice_get p.struct_names.sorts u.name) ≡ true
   struct_right u there =
@@ -75,7 +67,7 @@ module _ (s : Seat) (m : Module) (j o p : Input) (ended : Ended s j o p) (symbol
   pub nothing_late : late_anew (tables_of m) p ≡ None
   nothing_late =
       let i = with_sorts m.sorts p in
-      let operand : function_operand i ≡ None = ap (option_map operand_fault) (none_found (is_function_operand i) p.symbol_uses (λ u there. not_operand u.is_call (slice_get m.sorts u.symbol) (symbol_right u there))) in
+      let operand : function_operand i ≡ None = ap (option_map operand_fault) (none_found (is_function_operand i) p.symbol_uses (λ u there. right_use u.is_call (is_right true (slice_get m.sorts u.symbol)) (is_right_symbol i u) (symbol_right u there))) in
       let wrong : wrong_symbol i ≡ None = ap (option_map (λ (u : SymbolUse). u.start)) (none_found (λ u. not (is_right_symbol i u)) p.symbol_uses (λ u there. ap not (symbol_right u there))) in
       let missed : wrong_struct i ≡ None = ap (option_map (λ (u : StructUse). u.start)) (none_found (λ u. not (is_right_struct i u)) p.struct_uses (λ u there. ap not (struct_right u there))) in
       rw (operand, ended.missing, wrong, missed) refl

@@ -11,6 +11,8 @@ pub mod TypesThat
 pub mod Decorations
 pub mod Records
 pub mod FiniteFloats
+pub mod OutsideRead
+pub mod Used
 pub mod Operands
 pub mod Arguments
 pub mod ValueSorts
@@ -56,6 +58,7 @@ pub mod Shown
 pub mod Types
 pub mod WholeTypes
 pub mod PrintedTypes
+pub mod PlainForms
 pub mod OperandsAgain
 pub mod AgainTypes
 pub mod Parts
@@ -147,6 +150,7 @@ pub mod AnewRecords
 pub mod AnewTypes
 pub mod Again
 pub mod AnewOperands
+pub mod AnewCalls
 pub mod AnewFloats
 pub mod Ops
 pub mod AnewBodies

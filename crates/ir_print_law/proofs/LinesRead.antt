@@ -1,5 +1,6 @@
 -- Items without effect, and parameters of declared functions, as they are read.
 use Rattle.std.proofs.Common.{Bool, true, false, sym, subst}
+use Rattle.std.specs.Prelude.{nat_lt}
 use Rattle.std.specs.List.{AllByRecursion}
 use Rattle.grammar.specs.Grammar.{pure, look, ◌>>◌}
 use Rattle.ir_ast.specs.declared.module.Module.{Module}
@@ -7,18 +8,22 @@ use Rattle.ir_tokens.specs.declared.token.Kind.{Kind}
 use Rattle.ir_tokens.specs.declared.token.Kind.TheVariants as k
 use Rattle.ir_forms.specs.Cursor.{kind, spelling, begins_line}
 use Rattle.ir_forms.specs.declared.input.Input.{Input}
-use Rattle.ir_forms.specs.Input.{skip, expect, unexpected}
+use Rattle.ir_forms.specs.Input.{skip, expect, unexpected, limit}
 use Rattle.ir_forms.specs.Names.{take_number, next_number, is_next, with_number_taken}
 use Rattle.ir_forms.specs.Decorations.{any_token, any_token_takes, decorations}
-use Rattle.ir_forms.specs.Lists.{at_round}
+use Rattle.ir_forms.specs.Lists.{ends_parameters}
+use Rattle.ir_forms.specs.ManyWith.{many_with}
 use Rattle.ir_forms.specs.declared.decorating.Spot.TheVariants as spot
+use Rattle.ir_text.specs.DataItems.{has_room, token_of_item, token_takes, ends_data, after_token, past_item}
 use Rattle.ir_text.specs.ItemsOfText.{is_constant_by, is_constant}
+use Rattle.ir_text.specs.declared.data_items.OpenBrackets.{OpenBrackets}
 use Rattle.ir_text.specs.Lines.{text_after, source_name, target_part_by, target_part, target_after, target_line, at_brace, braced, group_after, group, begins_dollar, is_dollar, is_comdat_name, dollar_name_by, dollar_name, comdat_after, named_comdat, comdat, at_line_end, rest_of_line, is_first, line_after, whole_line, metadata_line}
 use Rattle.ir_text.specs.Parameters.{declared_name_by, declared_name, declared_parameter, declared_parameter_takes, declared_parameters}
 use Rattle.ir_print_law.specs.Printable.{IsAnyType}
 use Rattle.ir_print_law.proofs.Decorations.{decorations_pass, separator_passes, any_token_passes}
 use Rattle.ir_print_law.proofs.Forms.{Keeps, Same, all}
-use Rattle.ir_print_law.proofs.Passes.{Passes, skip_passes, expect_passes, check_passes, pure_passes, refuse_passes, past, look_passes, all_pass}
+use Rattle.ir_print_law.proofs.OutsideRead.{dots_pass}
+use Rattle.ir_print_law.proofs.Passes.{Passes, skip_passes, expect_passes, check_passes, pure_passes, refuse_passes, past, look_passes, all_pass, all_with_pass}
 use Rattle.ir_print_law.proofs.Reading.{Reading}
 use Rattle.ir_print_law.proofs.TypesThat.{any_type_keeps, type_of}
 
@@ -103,6 +108,18 @@ module _ {m : Module} (r : Reading m) where
       past r (decorations spot.Global) (look (λ i. kind i.cursor) is_constant_by) (decorations_pass r spot.Global)
       (look_passes r (λ i. kind i.cursor) is_constant_by constant_by_passes)
 
+  -- ---- data
+
+  token_passes : (b : OpenBrackets) → Passes r (token_of_item b)
+  token_passes b = past r (has_room b) any_token (check_passes r (λ _. nat_lt b.depth 4294967295) limit) (any_token_passes r)
+
+  -- the rest of an item
+  pub past_item_passes : Passes r past_item
+  unfolding past_item
+  past_item_passes =
+      past r (many_with ends_data token_of_item token_takes after_token (record { depth = 0 })) (pure tt)
+      (all_with_pass r ends_data token_of_item token_takes after_token (record { depth = 0 }) token_passes) (pure_passes r tt)
+
   -- ---- parameters of declared functions
 
   module _ (on : (i : Input) → r.Fore i → r.Fore (with_number_taken i)) (from : (i : Input) → r.Back (with_number_taken i) → r.Back i) where
@@ -145,4 +162,10 @@ module _ {m : Module} (r : Reading m) where
     -- the parameters of a declared function have types
     pub declared_parameters_keep : (i : Input) → Keeps r.Fore (Same r.Fore) r.Back declared_parameters (AllByRecursion (IsAnyType m)) i
     unfolding declared_parameters
-    declared_parameters_keep = all r.Back r.Fore (IsAnyType m) at_round declared_parameter declared_parameter_takes parameter_keeps
+    declared_parameters_keep i ns o h f =
+        let t = h.3 in
+        let a = all r.Back r.Fore (IsAnyType m) ends_parameters declared_parameter declared_parameter_takes parameter_keeps i h.0 h.1 h.2 f in
+        let b = dots_pass r h.1 t.0 t.1 t.2 a.0 in (
+          subst r.Fore t.3.1 b.0,
+          λ back. let c = a.1 (b.1 (subst r.Back (sym t.3.1) back)).0 in (c.0, subst (AllByRecursion (IsAnyType m)) t.3.0 c.1),
+        )

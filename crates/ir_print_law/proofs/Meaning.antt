@@ -1,5 +1,5 @@
 -- What global names mean so far in a whole text, and what they mean in a module with the same names.
-use Rattle.std.proofs.Common.{◌≡◌, ℕ, zero, suc, ◌<◌, Bool, true, false, List, [], ◌∷◌, ◌++◌, ◌⊎◌, inl, inr, length, map, Option, None, Some, refl, sym, ap, subst, ◌∙◌, arith, if◌then◌else◌}
+use Rattle.std.proofs.Common.{◌≡◌, ℕ, zero, suc, ◌<◌, Bool, true, false, List, [], ◌∷◌, ◌++◌, ◌⊎◌, inl, inr, length, map, Option, None, Some, refl, sym, ap, ap₂, subst, ◌∙◌, arith, if◌then◌else◌}
 use Rattle.std.proofs.lemmas.Bool.Decides.{nat_tests}
 use Rattle.std.proofs.lemmas.List.{append-nil, length-map}
 use Rattle.std.proofs.lemmas.Option.{slice_get-map, slice_get_within}
@@ -14,7 +14,7 @@ use Rattle.ir_ast.specs.declared.items_of_module.SymbolSort.{SymbolSort}
 use Rattle.ir_ast.specs.declared.items_of_module.SymbolSort.TheVariants as symbol
 use Rattle.ir_ast.specs.declared.module.Module.{Module}
 use Rattle.ir_tokens.specs.Bytes.{Text}
-use Rattle.ir_forms.specs.Names.{is_symbol, is_function}
+use Rattle.ir_forms.specs.Names.{is_symbol, is_function, is_declared}
 use Rattle.ir_forms.specs.declared.input.Input.{Input}
 use Rattle.ir_text.specs.Anew.{sort_before, sorts_before}
 use Rattle.ir_text.specs.Read.{module_of}
@@ -24,9 +24,10 @@ pub use Rattle.ir_print_law.proofs.Operands.{named_at as name_here}
 use Rattle.ir_print_law.proofs.ModuleState.{no_one, Stands, Leads, symbols_of}
 use Rattle.ir_print_law.proofs.ModuleTables.{OwnsSymbol}
 use Rattle.ir_print_law.proofs.Tables.{Begins, begins_itself, stays}
-use Rattle.ir_text.specs.Late.{is_right, is_struct}
+use Rattle.ir_text.specs.Late.{may_use, is_struct}
 use Rattle.ir_print_law.specs.Places.{symbol_in, struct_in, AreRight}
-use Rattle.ir_print_law.proofs.AnewTables.{place_is_there}
+use Rattle.ir_print_law.proofs.Used.{used_known}
+use Rattle.ir_print_law.proofs.AnewTables.{Tests, tests_same, place_is_there}
 use Rattle.ir_print_law.specs.Standing.{sort_named, MeanAlike, symbols_before, HaveSameNames}
 
 -- ---- names of items
@@ -174,9 +175,9 @@ module _ (i e : Input) (here : Stands no_one i) (first : First i e) where
 
 -- ---- both
 
-no_function : (o : Option SymbolSort) → is_symbol o ≡ false → is_function o ≡ false
-no_function None e = refl
-no_function (Some symbol.Unknown) e = refl
+no_function : (o : Option SymbolSort) → is_symbol o ≡ false → (is_function o ≡ false) × (is_declared o ≡ false)
+no_function None e = (refl, refl)
+no_function (Some symbol.Unknown) e = (refl, refl)
 no_function (Some (symbol.Global g)) e = absurd cc
 no_function (Some (symbol.Declared d)) e = absurd cc
 no_function (Some (symbol.Defined f)) e = absurd cc
@@ -191,12 +192,15 @@ known (Some (symbol.Defined f)) = inl (symbol.Defined f, refl, refl)
 
 -- two meanings are alike where each is the other one, if it is one
 pub alike_by : (o p : Option SymbolSort) → ((sort : SymbolSort) → o ≡ Some sort → is_symbol (Some sort) ≡ true → p ≡ Some sort) → ((sort : SymbolSort) → p ≡ Some sort → is_symbol (Some sort) ≡ true → o ≡ Some sort)
-    → (is_symbol o ≡ is_symbol p) × (is_function o ≡ is_function p)
+    → Tests o p
 alike_by o p there back = elim (known o) [
-  | inl x ↦ let same = x.1 ∙ sym (there x.0 x.1 x.2) in (ap is_symbol same, ap is_function same)
+  | inl x ↦ tests_same o p (x.1 ∙ sym (there x.0 x.1 x.2))
   | inr none ↦ elim (known p) [
-    | inl y ↦ let same = back y.0 y.1 y.2 ∙ sym y.1 in (ap is_symbol same, ap is_function same)
-    | inr neither ↦ (none ∙ sym neither, no_function o none ∙ sym (no_function p neither))
+    | inl y ↦ tests_same o p (back y.0 y.1 y.2 ∙ sym y.1)
+    | inr neither ↦
+        let a = no_function o none in
+        let b = no_function p neither in
+        (none ∙ sym neither, a.0 ∙ sym b.0, a.1 ∙ sym b.1)
   ]
 ]
 
@@ -273,13 +277,6 @@ module _ (m : Module) (names : HasModuleNames m) (i e : Input) (here : Stands no
 
 -- ---- names that are used
 
-right_known : (is_call : Bool) (x : Option SymbolSort) → is_right is_call x ≡ true → (sort : SymbolSort) × (x ≡ Some sort) × (is_symbol (Some sort) ≡ true)
-right_known is_call None e = absurd cc
-right_known is_call (Some symbol.Unknown) e = absurd cc
-right_known is_call (Some (symbol.Global g)) e = (symbol.Global g, refl, refl)
-right_known is_call (Some (symbol.Declared d)) e = (symbol.Declared d, refl, refl)
-right_known is_call (Some (symbol.Defined f)) e = (symbol.Defined f, refl, refl)
-
 struct_known : (x : Option (Option ℕ)) → is_struct x ≡ true → (layout : ℕ) × (x ≡ Some (Some layout))
 struct_known None e = absurd cc
 struct_known (Some None) e = absurd cc
@@ -294,11 +291,12 @@ module _ (m : Module) (names : HasModuleNames m) (o e : Input) (leads : Leads e 
   are_right = record {
     symbols = λ name u there place.
         let is = leads.symbol_uses u there in
-        let x = right_known u.is_call (slice_get e.symbols.sorts u.symbol) is in
+        let x = used_known e.wide u.is_call (slice_get e.symbols.sorts u.symbol) (name_at e.symbols.names u.symbol) is in
         let at = stays o.symbols.names e.symbols.names u.symbol name leads.symbols (place_is_there name o.symbols.names u.symbol place) in
         let own = meant_at e e leads.end itself u.symbol name x.0 at x.1 x.2 in
         let item = sym (same_item m (module_of e) same x.0) ∙ own.1 in
-        ap (is_right u.is_call) (means_item m names name x.0 item ∙ sym x.1) ∙ is;
+        ap₂ (λ (wide : Bool) (s : Option SymbolSort). may_use wide u.is_call s name) leads.forms (means_item m names name x.0 item ∙ sym x.1)
+        ∙ ap (may_use e.wide u.is_call (slice_get e.symbols.sorts u.symbol)) (sym (name_here e.symbols.names u.symbol name at)) ∙ is;
     structs = λ name u there place.
         let is = leads.struct_uses u there in
         let x = struct_known (slice_get e.struct_names.sorts u.name) is in

@@ -3,7 +3,10 @@ use Rattle.std.proofs.Common.{◌≡◌, ℕ, suc, ◌+◌, ◌<◌, ◌≤◌, 
 use Rattle.std.specs.Prelude.{nat_lt}
 use Rattle.std.proofs.lemmas.Bool.Decides.{nat_tests}
 use Rattle.std.proofs.lemmas.List.{append-nil}
+use Rattle.std.proofs.lemmas.Option.{slice_get_within}
 use Rattle.lemmas.specs.Bools.{not_true}
+use Rattle.lemmas.specs.Lists.{get_end, get_some}
+use Rattle.ir_ast.specs.RuntimeNames.{runtime_of}
 use Rattle.ir_ast.specs.declared.block.Block.{Block}
 use Rattle.ir_ast.specs.declared.function.Function.{Function}
 use Rattle.ir_ast.specs.declared.function.Parameter.{Parameter}
@@ -19,13 +22,14 @@ use Rattle.ir_forms.specs.Table.{mentioned, defined}
 use Rattle.ir_forms.specs.declared.table.Table.{Table}
 use Rattle.ir_forms.specs.declared.input.Input.{Input}
 use Rattle.ir_forms.specs.Names.{struct_number, symbol_number, is_known_struct, is_known_symbol, with_struct, with_symbol, new_struct, new_symbol}
+use Rattle.ir_text.specs.DataItems.{with_outside}
 use Rattle.ir_text.specs.ItemsOfText.{with_struct_type, with_global, with_declare, function_of, with_function}
 use Rattle.name_text.specs.Readings.{AreBytes}
 use Rattle.ir_print.specs.Names.{name_at}
 use Rattle.ir_print_law.specs.Printable.{IsSymbol}
 use Rattle.ir_print_law.proofs.Forms.{Keeps, Any}
 use Rattle.ir_print_law.proofs.ModuleState.{Pending, no_one, struct_names_of, symbols_of, Stands, Kept, kept_of, Leads, next_bytes, next_place, next_spells, struct_name_begins, symbol_begins}
-use Rattle.ir_print_law.proofs.ModuleTables.{AreStructs, AreSymbols, Owned, OwnsStruct, OwnsSymbol, table_mentions, struct_defines, global_defines, declared_defines, defined_defines, more_globals, more_declares, more_functions}
+use Rattle.ir_print_law.proofs.ModuleTables.{AreStructs, AreSymbols, Owned, OwnsStruct, OwnsSymbol, table_mentions, struct_defines, global_defines, declared_defines, data_defines, defined_defines, more_globals, more_declares, more_functions}
 use Rattle.ir_print_law.proofs.NameBytes.{spelled_bytes}
 use Rattle.ir_print_law.proofs.Tables.{name_there, stays}
 
@@ -326,6 +330,63 @@ declare_added d i h = record {
   few_declares = added_length i.declares d 65535 h.few_declares;
   few_functions = h.few_functions;
 }
+
+-- ---- data
+
+one_less : (n most : ℕ) → n + 1 ≤ most → n + 0 ≤ most
+one_less n most le = omega (arith, le)
+
+-- the name of data, which was taken for that of a global
+abbrev data_name : (s returned : ℕ) → Input → Declare
+data_name s returned i = record { symbol = s; runtime = runtime_of (name_at i.symbols.names s); returned = returned; parameters = [] }
+
+-- the name is declared, and no global is pending
+pub data_added : (s number returned : ℕ) (i : Input) → length i.declares ≡ number → nat_lt number 65535 ≡ true → Stands (global_pending s) i → Stands no_one (with_outside s number returned i)
+data_added s number returned i same few h = record {
+  bytes = h.bytes;
+  spell = h.spell;
+  place = h.place;
+  ordered = h.ordered;
+  once = h.once;
+  structs = h.structs;
+  symbols = subst (λ (l : List ℕ). AreSymbols i.wide (record { globals = l; declares = map (λ (d : Declare). d.symbol) (i.declares ++ data_name s returned i ∷ []) ++ []; functions = own.functions }) table) (sym (append-nil own.globals))
+      (subst (λ (l : List ℕ). AreSymbols i.wide (record own { declares = l }) table) (nil_first (map (λ (d : Declare). d.symbol) i.declares) s ∙ added (λ (d : Declare). d.symbol) i.declares (data_name s returned i))
+      (subst (λ (k : ℕ). AreSymbols i.wide (more_declares own s) (defined s (symbol.Declared k) i.symbols)) (plain_length (λ (d : Declare). d.symbol) i.declares ∙ same)
+      (data_defines i.wide own i.symbols s h.symbols)));
+  few_globals = one_less (length i.globals) 4096 h.few_globals;
+  few_declares = added_length i.declares (data_name s returned i) 65535 (fits_one (length i.declares) 65535 (ap (λ (k : ℕ). nat_lt k 65535) same ∙ few));
+  few_functions = h.few_functions;
+} where
+  own : Owned
+  own = record (symbols_of no_one i) { globals = map (λ (g : Global). g.symbol) i.globals }
+
+  table : Table SymbolSort
+  table = defined s (symbol.Declared number) i.symbols
+
+-- what leads on from there leads on from before it
+pub leads_data : (e : Input) (s number returned : ℕ) (i : Input) → Leads e (with_outside s number returned i) → Leads e i
+leads_data e s number returned i b = record {
+  end = b.end;
+  types = b.types;
+  struct_names = b.struct_names;
+  symbols = b.symbols;
+  struct_uses = b.struct_uses;
+  symbol_uses = b.symbol_uses;
+  missing = b.missing;
+  forms = b.forms;
+}
+
+-- the name is the same where reading ends
+pub data_named : (e : Input) (s : ℕ) (i : Input) → Stands (global_pending s) i → Leads e i → name_at i.symbols.names s ≡ name_at e.symbols.names s
+data_named e s i h b =
+    let globals = map (λ (g : Global). g.symbol) i.globals in
+    let sort = symbol.Global (length globals) in
+    let less = slice_get_within i.symbols.sorts s sort (h.symbols.known s sort (get_end globals s)) in
+    let same = h.symbols.same in
+    let name = get_some i.symbols.names s (omega (arith, less, same)) in
+    ap (λ (x : Option Text). unwrap_or x []) (name.1 ∙ sym (stays i.symbols.names e.symbols.names s name.0 b.symbols name.1))
+
+-- ---- defined functions
 
 -- the defined function is there
 pub function_added : (symbol returned : ℕ) (ps : List Parameter) (c : Option Text) (bs : List Block) (i : Input) → Stands (function_pending symbol) i

@@ -1,7 +1,9 @@
 -- What is known of a state between and within the items of a module, and of where reading ends.
-use Rattle.std.proofs.Common.{◌≡◌, ℕ, ◌+◌, ◌≤◌, Bool, true, false, if◌then◌else◌, List, [], ◌∷◌, ◌++◌, length, map, slice_get, unwrap_or, Option, None, Some, refl, sym, ap, ◌∙◌, inl, inr, ◌⊎◌}
+use Rattle.std.proofs.Common.{◌≡◌, ℕ, ◌+◌, ◌≤◌, Bool, true, false, if◌then◌else◌, List, [], ◌∷◌, ◌++◌, length, map, slice_get, unwrap_or, Option, None, Some, refl, sym, ap, subst, ◌∙◌, inl, inr, ◌⊎◌}
+use Rattle.std.specs.Prelude.{is_none}
 use Rattle.lemmas.specs.Lists.{in_first, in_second, last_in, IsIn}
 use Rattle.ir_ast.specs.Names.{numbered}
+use Rattle.ir_ast.specs.RuntimeNames.{runtime_of}
 use Rattle.ir_ast.specs.Types.{numbered_type}
 use Rattle.ir_ast.specs.declared.function.Function.{Function}
 use Rattle.ir_ast.specs.declared.function.LocalSort.{LocalSort}
@@ -13,6 +15,7 @@ use Rattle.ir_ast.specs.declared.items_of_module.SymbolSort.{SymbolSort}
 use Rattle.ir_ast.specs.declared.items_of_module.SymbolSort.TheVariants as symbol
 use Rattle.ir_tokens.specs.Bytes.{Text}
 use Rattle.ir_tokens.specs.declared.token.Token.{Token}
+use Rattle.ir_forms.specs.declared.fault.Fault.{Fault}
 use Rattle.ir_forms.specs.Cursor.{kind, kind_first, here, is_stop, next, rest_of, spelled, spelled_first, start, size, is_local_number}
 use Rattle.ir_forms.specs.Place.{Place}
 use Rattle.ir_forms.specs.Table.{empty}
@@ -22,24 +25,25 @@ use Rattle.ir_forms.specs.declared.uses.StructUse.{StructUse}
 use Rattle.ir_forms.specs.declared.uses.SymbolUse.{SymbolUse}
 use Rattle.ir_forms.specs.declared.input.Input.{Input}
 use Rattle.ir_forms.specs.Input.{advanced}
-use Rattle.ir_forms.specs.Names.{struct_number, with_struct_use, symbol_number, with_symbol_use}
+use Rattle.ir_forms.specs.Names.{struct_number, with_struct_use, symbol_number, with_symbol_use, is_declared}
 use Rattle.ir_forms.specs.Written.{with_type_interned}
-use Rattle.ir_text.specs.Late.{is_struct, is_right, is_right_struct, is_right_symbol}
+use Rattle.ir_text.specs.Late.{is_struct, is_right, is_right_struct, is_right_symbol, may_use}
 use Rattle.ir_text.specs.Read.{module_of}
 use Rattle.name_text.specs.Readings.{AreBytes}
 use Rattle.ir_print.specs.Names.{name_at}
 use Rattle.ir_print_law.specs.Stands.{AreDigits}
 use Rattle.ir_print_law.specs.OneTypes.{AreOnce}
 use Rattle.ir_print_law.proofs.OneTypes.{once_more}
-use Rattle.ir_print_law.specs.Definitions.{defined_structs, declared_functions, defined_functions, used_symbols}
+use Rattle.ir_print_law.specs.Definitions.{defined_structs, declared_functions, defined_functions, IsUsed}
 use Rattle.ir_print_law.specs.Printable.{IsSymbol}
 use Rattle.ir_print_law.proofs.ModuleTables.{AreStructs, AreSymbols, Owned, OwnsStruct, OwnsSymbol, table_mentions}
 use Rattle.ir_print_law.proofs.NameBytes.{spelled_bytes}
 use Rattle.ir_print_law.proofs.NumberTokens.{AllSpell}
 use Rattle.ir_print_law.proofs.Outside.{Outside, with_own}
 use Rattle.ir_print_law.proofs.DefinedLocals.{in_list}
-use Rattle.ir_print_law.proofs.Reading.{Reading}
+use Rattle.ir_print_law.proofs.Reading.{with_lost, Reading}
 use Rattle.ir_print_law.proofs.OneKind.{IsNext, type_ordered}
+use Rattle.ir_print_law.proofs.Used.{used_so}
 use Rattle.ir_print_law.proofs.Tables.{Begins, AreOrdered, begins_further, type_begins, name_begins, name_there, stays}
 
 -- ---- before a place
@@ -183,23 +187,43 @@ struct_named e i b = by (slice_get e.struct_names.sorts (struct_number i)) refl 
         named_in (λ (s : StructType). s.name) e.struct_names.names e.structs n (spelled i.cursor) (in_list (struct_names_of no_one e) layout n own) at
   ]
 
--- a name that is called is a function's, and one that is an operand is a global's
-pub symbol_named : (e i : Input) (is_call : Bool) → Leads e (with_symbol_use is_call i) → IsIn (spelled i.cursor) (used_symbols (module_of e) is_call)
-symbol_named e i is_call b = by is_call (slice_get e.symbols.sorts (symbol_number i)) refl right where
+-- a name that is called is a function's, and one that is an operand is a global's or that of something outside
+pub symbol_named : (e i : Input) (is_call : Bool) → Leads e (with_symbol_use is_call i) → IsUsed (module_of e) is_call (spelled i.cursor)
+symbol_named e i is_call b = elim (used_so e.wide is_call sort (name_at e.symbols.names (symbol_number i)) right) [
+  | inl is ↦ by is_call sort refl is
+  | inr h ↦ subst (λ (c : Bool). IsUsed (module_of e) c (spelled i.cursor)) (sym h.0)
+      (inr (h.1.0, declared sort refl h.1.1, ap (λ (name : Text). is_none (runtime_of name)) (sym its) ∙ h.1.2))
+] where
   at : slice_get e.symbols.names (symbol_number i) ≡ Some (spelled i.cursor)
   at = stays (numbered (spelled i.cursor) i.symbols.names) e.symbols.names (symbol_number i) (spelled i.cursor) b.symbols (name_there (spelled i.cursor) i.symbols.names)
+
+  its : name_at e.symbols.names (symbol_number i) ≡ spelled i.cursor
+  its = ap (λ (o : Option Text). unwrap_or o []) at
+
+  sort : Option SymbolSort
+  sort = slice_get e.symbols.sorts (symbol_number i)
 
   use_here : SymbolUse
   use_here = record { symbol = symbol_number i; is_call = is_call; start = start i.cursor; length = size i.cursor }
 
-  right : is_right is_call (slice_get e.symbols.sorts (symbol_number i)) ≡ true
+  right : may_use e.wide is_call sort (name_at e.symbols.names (symbol_number i)) ≡ true
   right = b.symbol_uses use_here (last_in use_here i.symbol_uses)
 
   owned : (x : SymbolSort) → slice_get e.symbols.sorts (symbol_number i) ≡ Some x → (x ≡ symbol.Unknown) ⊎ OwnsSymbol (symbols_of no_one e) x (symbol_number i)
   owned x same = b.end.symbols.owned (symbol_number i) x same
 
-  by : (is_call : Bool) (x : Option SymbolSort) → slice_get e.symbols.sorts (symbol_number i) ≡ x → is_right is_call x ≡ true
-      → IsIn (spelled i.cursor) (used_symbols (module_of e) is_call)
+  declared : (x : Option SymbolSort) → slice_get e.symbols.sorts (symbol_number i) ≡ x → is_declared x ≡ true → IsIn (spelled i.cursor) (declared_functions (module_of e))
+  declared None same is = absurd cc
+  declared (Some symbol.Unknown) same is = absurd cc
+  declared (Some (symbol.Global g)) same is = absurd cc
+  declared (Some (symbol.Declared d)) same is = elim (owned (symbol.Declared d) same) [
+    | inl none ↦ absurd cc
+    | inr own ↦ named_in (λ (x : Declare). x.symbol) e.symbols.names e.declares (symbol_number i) (spelled i.cursor)
+        (in_list (symbols_of no_one e).declares d (symbol_number i) own) at
+  ]
+  declared (Some (symbol.Defined f)) same is = absurd cc
+
+  by : (is_call : Bool) (x : Option SymbolSort) → slice_get e.symbols.sorts (symbol_number i) ≡ x → is_right is_call x ≡ true → IsUsed (module_of e) is_call (spelled i.cursor)
   by is_call None same is = absurd cc
   by is_call (Some symbol.Unknown) same is = absurd cc
   by true (Some (symbol.Global g)) same is = absurd cc
@@ -207,15 +231,10 @@ symbol_named e i is_call b = by is_call (slice_get e.symbols.sorts (symbol_numbe
     | inl none ↦ absurd cc
     | inr own ↦
         let n = symbol_number i in
-        named_in (λ (x : Global). x.symbol) e.symbols.names e.globals n (spelled i.cursor) (in_list (symbols_of no_one e).globals g n own) at
+        inl (named_in (λ (x : Global). x.symbol) e.symbols.names e.globals n (spelled i.cursor) (in_list (symbols_of no_one e).globals g n own) at)
   ]
   by false (Some (symbol.Declared d)) same is = absurd cc
-  by true (Some (symbol.Declared d)) same is = elim (owned (symbol.Declared d) same) [
-    | inl none ↦ absurd cc
-    | inr own ↦ in_first (spelled i.cursor) (declared_functions (module_of e)) (defined_functions (module_of e))
-        (named_in (λ (x : Declare). x.symbol) e.symbols.names e.declares (symbol_number i) (spelled i.cursor)
-        (in_list (symbols_of no_one e).declares d (symbol_number i) own) at)
-  ]
+  by true (Some (symbol.Declared d)) same is = in_first (spelled i.cursor) (declared_functions (module_of e)) (defined_functions (module_of e)) (declared (Some (symbol.Declared d)) same refl)
   by false (Some (symbol.Defined f)) same is = absurd cc
   by true (Some (symbol.Defined f)) same is = elim (owned (symbol.Defined f) same) [
     | inl none ↦ absurd cc
@@ -286,6 +305,21 @@ stands_symbol p i is_call h = record {
   few_functions = h.few_functions;
 }
 
+-- where something else is lost
+pub stands_lost : (p : Pending) (i : Input) (lost : Option Fault) → Stands p i → Stands p (with_lost lost i)
+stands_lost p i lost h = record {
+  bytes = h.bytes;
+  spell = h.spell;
+  place = h.place;
+  ordered = h.ordered;
+  once = h.once;
+  structs = h.structs;
+  symbols = h.symbols;
+  few_globals = h.few_globals;
+  few_declares = h.few_declares;
+  few_functions = h.few_functions;
+}
+
 -- names that are read further on begin with those before a mention
 pub struct_name_begins : (i : Input) (names : List Text) → Begins (numbered (spelled i.cursor) i.struct_names.names) names → Begins i.struct_names.names names
 struct_name_begins i names b = begins_further i.struct_names.names (numbered (spelled i.cursor) i.struct_names.names) names (name_begins (spelled i.cursor) i.struct_names.names) b
@@ -347,6 +381,19 @@ leads_symbol e i is_call b = record {
   forms = b.forms;
 }
 
+-- before something else was lost
+pub leads_lost : (e i : Input) (lost : Option Fault) → Leads e (with_lost lost i) → Leads e i
+leads_lost e i lost b = record {
+  end = b.end;
+  types = b.types;
+  struct_names = b.struct_names;
+  symbols = b.symbols;
+  struct_uses = b.struct_uses;
+  symbol_uses = b.symbol_uses;
+  missing = b.missing;
+  forms = b.forms;
+}
+
 -- The reading of a module, where these names are pending and `P` holds of what no form changes that reads a type or an operand.
 abbrev pub reading_of : (e : Input) (P : Kept → Type 0) (p : Pending) → Reading (module_of e)
 reading_of e P p = record {
@@ -368,6 +415,8 @@ reading_of e P p = record {
   on_symbol = λ i is_call f. (stands_symbol p i is_call f.0, f.1);
   from_symbol = leads_symbol e;
   symbol_is = symbol_named e;
+  on_lost = λ i lost f. (stands_lost p i lost f.0, f.1);
+  from_lost = leads_lost e;
 }
 
 -- ---- the same outside of a function's names

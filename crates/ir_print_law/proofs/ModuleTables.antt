@@ -5,7 +5,7 @@ use Rattle.std.proofs.lemmas.Bool.{cases_eq}
 use Rattle.std.proofs.lemmas.Bool.Decides.{nat_tests}
 use Rattle.std.proofs.lemmas.Option.{slice_get_within}
 use Rattle.std.proofs.lemmas.List.{length-set}
-use Rattle.lemmas.specs.Lists.{get_end, get_either, set_here, set_other, set_either}
+use Rattle.lemmas.specs.Lists.{get_end, get_either, get_some, set_here, set_is, set_other}
 use Rattle.ir_ast.specs.Names.{place_of}
 use Rattle.ir_ast.specs.declared.items_of_module.SymbolSort.{SymbolSort}
 use Rattle.ir_ast.specs.declared.items_of_module.SymbolSort.TheVariants as symbol
@@ -63,43 +63,48 @@ table_mentions {S = S} nothing Owns Good t name is h = by (place_of name t.names
     ];
   }
 
+-- a name means this from now on, whatever it meant so far
+table_redefines : {S : Type 0} (nothing : S) (Owns Later : S → ℕ → Type 0) (Good : Text → Type 0) (t : Table S) (n : ℕ) (sort : S) (name : Text)
+    → slice_get t.names n ≡ Some name → n < length t.sorts → Good name → ((k : ℕ) (x : S) → Owns x k → (k ≡ n → ⊥) → Later x k) → Later sort n
+    → ((k : ℕ) (x : S) → Later x k → (Owns x k × (k ≡ n → ⊥)) ⊎ ((k ≡ n) × (x ≡ sort)))
+    → IsTable nothing Owns Good t → IsTable nothing Later Good (defined n sort t)
+table_redefines {S = S} nothing Owns Later Good t n sort name at less is up here down h =
+    subst (λ (b : Bool). IsTable nothing Later Good (record { names = t.names; sorts = if b then slice_set t.sorts n sort else t.sorts })) (sym there) (record {
+      same = length-set t.sorts n sort ∙ h.same;
+      bytes = h.bytes;
+      places = h.places;
+      owned = λ k x e. elim (cases_eq k n) [
+        | inl p ↦ inr (subst (λ (j : ℕ). Later x j) (sym p) (subst (λ (y : S). Later y n) (set_is t.sorts n sort x (sym (ap (slice_get (slice_set t.sorts n sort)) p) ∙ e)) here))
+        | inr differs ↦ elim (h.owned k x (sym (set_other t.sorts n k sort differs) ∙ e)) [ inl q ↦ inl q | inr own ↦ inr (up k x own differs) ]
+      ];
+      known = λ k x later. elim (down k x later) [
+        | inl own ↦ set_other t.sorts n k sort own.1 ∙ h.known k x own.0
+        | inr p ↦ ap (slice_get (slice_set t.sorts n sort)) p.0 ∙ set_here t.sorts n sort less ∙ ap Some (sym p.1)
+      ];
+      good = λ k x other later e. elim (down k x later) [
+        | inl own ↦ h.good k x other own.0 e
+        | inr p ↦ subst Good (same_name other (sym at ∙ ap (slice_get t.names) (sym p.0) ∙ e)) is
+      ];
+    }) where
+      there : nat_lt n (length t.sorts) ≡ true
+      there = let l = less in grind (arith, nat_tests)
+
+      same_name : (other : Text) → Some name ≡ Some other → name ≡ other
+      same_name other e = cc
+
 -- a name that meant nothing so far means this from now on
 table_defines : {S : Type 0} (nothing : S) (Owns Later : S → ℕ → Type 0) (Good : Text → Type 0) (t : Table S) (n : ℕ) (sort : S) (name : Text)
     → slice_get t.names n ≡ Some name → slice_get t.sorts n ≡ Some nothing → Good name → ((k : ℕ) → Owns nothing k → ⊥)
     → ((k : ℕ) (x : S) → Owns x k → Later x k) → Later sort n → ((k : ℕ) (x : S) → Later x k → Owns x k ⊎ ((k ≡ n) × (x ≡ sort)))
     → IsTable nothing Owns Good t → IsTable nothing Later Good (defined n sort t)
 table_defines {S = S} nothing Owns Later Good t n sort name at none is no_one up here down h =
-    subst (λ (b : Bool). IsTable nothing Later Good (record { names = t.names; sorts = if b then slice_set t.sorts n sort else t.sorts })) (sym there) (record {
-      same = length-set t.sorts n sort ∙ h.same;
-      bytes = h.bytes;
-      places = h.places;
-      owned = λ k x e. elim (set_either t.sorts n sort k x e) [
-        | inl p ↦ elim (h.owned k x p) [ inl q ↦ inl q | inr own ↦ inr (up k x own) ]
-        | inr p ↦ inr (subst (λ (j : ℕ). Later x j) (sym p.0) (subst (λ (y : S). Later y n) p.1 here))
-      ];
-      known = λ k x later. elim (down k x later) [
-        | inl own ↦ elim (cases_eq k n) [
-          | inl p ↦ absurd (no_one k (subst (λ (y : S). Owns y k) (same_sort x (sym (h.known k x own) ∙ ap (slice_get t.sorts) p)) own))
-          | inr differs ↦ set_other t.sorts n k sort differs ∙ h.known k x own
-        ]
-        | inr p ↦ ap (slice_get (slice_set t.sorts n sort)) p.0 ∙ set_here t.sorts n sort less ∙ ap Some (sym p.1)
-      ];
-      good = λ k x other later e. elim (down k x later) [
-        | inl own ↦ h.good k x other own e
-        | inr p ↦ subst Good (same_name other (sym at ∙ ap (slice_get t.names) (sym p.0) ∙ e)) is
-      ];
-    }) where
-      less : n < length t.sorts
-      less = slice_get_within t.sorts n nothing none
-
-      there : nat_lt n (length t.sorts) ≡ true
-      there = let l = less in grind (arith, nat_tests)
-
-      same_sort : (x : S) → Some x ≡ slice_get t.sorts n → x ≡ nothing
+    table_redefines nothing Owns Later Good t n sort name at (slice_get_within t.sorts n nothing none) is (λ k x own differs. up k x own) here
+    (λ k x later. elim (down k x later) [ inl own ↦ inl (own, λ e. apart k x e own) | inr p ↦ inr p ]) h where
+      same_sort : (x : S) → Some x ≡ Some nothing → x ≡ nothing
       same_sort x e = cc
 
-      same_name : (other : Text) → Some name ≡ Some other → name ≡ other
-      same_name other e = cc
+      apart : (k : ℕ) (x : S) → k ≡ n → Owns x k → ⊥
+      apart k x e own = no_one k (subst (λ (y : S). Owns y k) (same_sort x (sym (h.known k x own) ∙ ap (slice_get t.sorts) e ∙ none)) own)
 
 -- ---- structs
 
@@ -245,6 +250,41 @@ global_defines wide own t n name at none is h = symbol_defines wide own (more_gl
 pub declared_defines : (wide : Bool) (own : Owned) (t : Table SymbolSort) (n : ℕ) (name : Text) → slice_get t.names n ≡ Some name → is_symbol (slice_get t.sorts n) ≡ false → IsSymbol wide name
     → AreSymbols wide own t → AreSymbols wide (more_declares own n) (defined n (symbol.Declared (length own.declares)) t)
 declared_defines wide own t n name at none is h = symbol_defines wide own (more_declares own n) t n (symbol.Declared (length own.declares)) name (declared_more own n) at none is h
+
+-- a name that was taken for that of the next global is that of the next declared function
+pub data_defines : (wide : Bool) (own : Owned) (t : Table SymbolSort) (n : ℕ) → AreSymbols wide (more_globals own n) t
+    → AreSymbols wide (more_declares own n) (defined n (symbol.Declared (length own.declares)) t)
+data_defines wide own t n h =
+    table_redefines symbol.Unknown (OwnsSymbol (more_globals own n)) (OwnsSymbol (more_declares own n)) (IsSymbol wide) t n (symbol.Declared (length own.declares)) there.0 there.1 less
+    (h.good n sort there.0 mine there.1) up (get_end own.declares n) down h where
+      sort : SymbolSort
+      sort = symbol.Global (length own.globals)
+
+      mine : OwnsSymbol (more_globals own n) sort n
+      mine = get_end own.globals n
+
+      less : n < length t.sorts
+      less = slice_get_within t.sorts n sort (h.known n sort mine)
+
+      there : (name : Text) × (slice_get t.names n ≡ Some name)
+      there = let s = h.same in let l = less in get_some t.names n (omega (arith, l, s))
+
+      no_global : (x : SymbolSort) → Some x ≡ Some sort → OwnsSymbol own x n → ⊥
+      no_global x e old =
+          let same : x ≡ sort = cc in
+          let past = slice_get_within own.globals (length own.globals) n (subst (λ (y : SymbolSort). OwnsSymbol own y n) same old) in
+          omega (arith, past)
+
+      up : (k : ℕ) (x : SymbolSort) → OwnsSymbol (more_globals own n) x k → (k ≡ n → ⊥) → OwnsSymbol (more_declares own n) x k
+      up k x o differs = elim ((global_more own n).2 k x o) [ inl old ↦ (declared_more own n).0 k x old | inr p ↦ absurd (differs p.0) ]
+
+      apart : (k : ℕ) (x : SymbolSort) → OwnsSymbol own x k → k ≡ n → ⊥
+      apart k x old e =
+          let here : OwnsSymbol own x n = subst (λ (j : ℕ). OwnsSymbol own x j) e old in
+          no_global x (sym (h.known n x ((global_more own n).0 n x here)) ∙ h.known n sort mine) here
+
+      down : (k : ℕ) (x : SymbolSort) → OwnsSymbol (more_declares own n) x k → (OwnsSymbol (more_globals own n) x k × (k ≡ n → ⊥)) ⊎ ((k ≡ n) × (x ≡ symbol.Declared (length own.declares)))
+      down k x later = elim ((declared_more own n).2 k x later) [ inl old ↦ inl ((global_more own n).0 k x old, apart k x old) | inr p ↦ inr p ]
 
 -- the same of the next defined function
 pub defined_defines : (wide : Bool) (own : Owned) (t : Table SymbolSort) (n : ℕ) (name : Text) → slice_get t.names n ≡ Some name → is_symbol (slice_get t.sorts n) ≡ false → IsSymbol wide name

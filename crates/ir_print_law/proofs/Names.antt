@@ -1,9 +1,10 @@
 -- Names are read alike in both.
 use Rattle.std.proofs.Common.{◌≡◌, ℕ, Bool, true, false, not, List, [], ◌∷◌, inl, Option, None, Some, refl, sym, ap, ap₂, ◌∙◌}
-use Rattle.std.specs.Prelude.{nat_lt}
+use Rattle.std.specs.Prelude.{nat_lt, ◌&&◌, ◌||◌, is_none}
 use Rattle.std.specs.Fmt as text
 use Rattle.grammar.specs.Grammar.{◌>>◌}
 use Rattle.ir_ast.specs.Names.{place_of, number_of, numbered}
+use Rattle.ir_ast.specs.RuntimeNames.{runtime_of}
 use Rattle.ir_ast.specs.declared.function.LocalSort.{LocalSort}
 use Rattle.ir_ast.specs.declared.function.LocalSort.TheVariants as local
 use Rattle.ir_ast.specs.declared.items_of_module.SymbolSort.TheVariants as symbol
@@ -19,7 +20,7 @@ use Rattle.ir_forms.specs.declared.uses.Wanted.{Wanted}
 use Rattle.ir_forms.specs.declared.uses.Wanted.TheVariants as wants
 use Rattle.ir_forms.specs.Input.{limit, unexpected}
 use Rattle.ir_forms.specs.Table.{mentioned, sorts_with}
-use Rattle.ir_forms.specs.Names.{has_number, is_new, with_number_taken, with_number_taken_falls, take_number, is_at, is_written_next, next_number, struct_number, with_struct_use, with_struct_use_falls, struct_name, is_symbol, is_function, symbol_number, not_left_out, is_known_symbol, with_symbol, with_symbol_falls, new_symbol, with_symbol_use, with_symbol_use_falls, used_symbol, callee, sort_of_symbol, used_global, local_number, with_local_use, with_local_use_falls, used_local, used_value, used_label_by, used_label, incoming_label, target, is_known_local, with_value, with_value_falls, has_value_room, new_value, numbered_value, key_number, with_unwritten_value, with_unwritten_value_falls, value_of_key, unnamed_value, with_sort, with_sort_falls, set_sort, with_label, with_label_falls, new_label, numbered_label, with_unwritten_label, with_unwritten_label_falls, label_of_key, unnamed_label, quoted}
+use Rattle.ir_forms.specs.Names.{has_number, is_new, with_number_taken, with_number_taken_falls, take_number, is_at, is_written_next, next_number, struct_number, with_struct_use, with_struct_use_falls, struct_name, is_symbol, is_function, is_declared, is_outside, may_be_operand, symbol_number, not_left_out, is_known_symbol, with_symbol, with_symbol_falls, new_symbol, with_symbol_use, with_symbol_use_falls, used_symbol, callee, sort_of_symbol, used_global, local_number, with_local_use, with_local_use_falls, used_local, used_value, used_label_by, used_label, incoming_label, target, is_known_local, with_value, with_value_falls, has_value_room, new_value, numbered_value, key_number, with_unwritten_value, with_unwritten_value_falls, value_of_key, unnamed_value, with_sort, with_sort_falls, set_sort, with_label, with_label_falls, new_label, numbered_label, with_unwritten_label, with_unwritten_label_falls, label_of_key, unnamed_label, quoted}
 use Rattle.ir_print_law.proofs.Tables.{Begins, begins_itself, name_begins, place_there}
 use Rattle.ir_print_law.specs.Standing.{sort_named}
 use Rattle.ir_print_law.proofs.Seats.{Seat, Beside, placeless, bare, grown_itself, next_either, spelled_same, key_same}
@@ -106,11 +107,22 @@ module _ (s : Seat) where
   unfolding callee
   callee_same i j = past s (not_left_out_same i j) (used_symbol_same true)
 
+  -- what is here is that of something outside in both, or in neither
+  pub outside_same : (i j : Input) → Beside s i j → is_outside (sort_of_symbol i) (spelled i.cursor) ≡ is_outside (sort_of_symbol j) (spelled j.cursor)
+  outside_same i j b =
+      ap₂ (λ (x y : Bool). x && y) ((b.symbols.alike (spelled i.cursor)).2 ∙ ap (λ (t : Text). is_declared (sort_named t j.symbols)) (word i j b))
+      (ap (λ (t : Text). is_none (runtime_of t)) (word i j b))
+
+  stands_same : (i j : Input) → Beside s i j → may_be_operand i.wide (sort_of_symbol i) (spelled i.cursor) ≡ may_be_operand j.wide (sort_of_symbol j) (spelled j.cursor)
+  stands_same i j b =
+      ap₂ (λ (x y : Bool). x || y) (ap not ((b.symbols.alike (spelled i.cursor)).1 ∙ ap (λ (t : Text). is_function (sort_named t j.symbols)) (word i j b)))
+      (ap₂ (λ (x y : Bool). x && y) (outside_same i j b) b.forms)
+
   pub used_global_same : Same s used_global
   unfolding used_global
   used_global_same i j = past s (past s
       (rule s (λ i. not (is_intrinsic (spelled i.cursor))) (λ i. left_out i.cursor) (λ i j b. ap (λ (t : Text). not (is_intrinsic t)) (word i j b)) i j)
-      (rule s (λ i. not (is_function (sort_of_symbol i))) (λ i. left_out i.cursor) (λ i j b. ap not ((b.symbols.alike (spelled i.cursor)).1 ∙ ap (λ (t : Text). is_function (sort_named t j.symbols)) (word i j b)))))
+      (rule s (λ i. may_be_operand i.wide (sort_of_symbol i) (spelled i.cursor)) (λ i. left_out i.cursor) stands_same))
       (used_symbol_same false)
 
   -- the name of the function itself

@@ -16,7 +16,7 @@ use Rattle.ir_forms.specs.Intrinsics.{is_intrinsic, is_left_out}
 use Rattle.ir_forms.specs.declared.uses.Wanted.{Wanted}
 use Rattle.ir_forms.specs.declared.uses.Wanted.TheVariants as wants
 use Rattle.ir_forms.specs.declared.input.Input.{Input}
-use Rattle.ir_forms.specs.Names.{struct_name, struct_number, used_symbol, symbol_number, callee, used_global, used_local, local_number, used_label, used_label_by, sort_of_symbol, is_function, with_struct_use, with_symbol_use, with_local_use, target, new_value, is_known_local, is_local, new_label, quoted}
+use Rattle.ir_forms.specs.Names.{struct_name, struct_number, used_symbol, symbol_number, callee, used_global, used_local, local_number, used_label, used_label_by, sort_of_symbol, may_be_operand, with_struct_use, with_symbol_use, with_local_use, target, new_value, is_known_local, is_local, new_label, quoted}
 use Rattle.ir_forms.specs.Operand.{operand, operand_by}
 use Rattle.name_text.specs.Names.{name_text}
 use Rattle.name_text.specs.declared.blank.Blank.TheVariants as blank
@@ -151,23 +151,23 @@ symbol_read is_call i name e less =
     (tt, i, (ap (λ (n : ℕ). nat_lt n 4294967296) same ∙ few (number_of name i.symbols.names) less, refl), (same, refl))
 
 global_read : (bits : Word) (i : Input) (name : Text) → kind i.cursor ≡ k.GlobalName → spelled i.cursor ≡ name → is_intrinsic name ≡ false
-    → is_function (option_and_then (slice_get i.symbols.sorts) (place_of name i.symbols.names)) ≡ false → number_of name i.symbols.names < 2 ^ 32
+    → may_be_operand i.wide (option_and_then (slice_get i.symbols.sorts) (place_of name i.symbols.names)) name ≡ true → number_of name i.symbols.names < 2 ^ 32
     → (operand bits).says i (Global (number_of name i.symbols.names)) (with_symbol_use false i)
 unfolding operand used_global
-global_read bits i name is e own no_function less =
+global_read bits i name is e own stands less =
     let n = number_of name i.symbols.names in
     let o = with_symbol_use false i in
     let no_intrinsic : not (is_intrinsic (spelled i.cursor)) ≡ true = ap (λ (x : Text). not (is_intrinsic x)) e ∙ ap not own in
-    let none : not (is_function (sort_of_symbol i)) ≡ true =
-    ap (λ (x : Text). not (is_function (option_and_then (slice_get i.symbols.sorts) (place_of x i.symbols.names)))) e ∙ ap not no_function in
+    let none : may_be_operand i.wide (sort_of_symbol i) (spelled i.cursor) ≡ true =
+    ap (λ (x : Text). may_be_operand i.wide (option_and_then (slice_get i.symbols.sorts) (place_of x i.symbols.names)) x) e ∙ stands in
     let used : used_global.says i n o = (tt, i, (tt, i, (no_intrinsic, refl), (none, refl)), symbol_read false i name e less) in
     subst (λ (x : Kind). (operand_by bits x).says i (Global n) o) (sym is) (n, o, used, (refl, refl))
 
 pub global_operands_are_read : GlobalOperandsAreRead
-global_operands_are_read bits name i gap rest own no_intrinsic no_function less blanks seam at =
+global_operands_are_read bits name i gap rest own no_intrinsic stands less blanks seam at =
     let w = global_comes i.cursor gap name rest blanks own seam at in
     let e : spelled i.cursor ≡ name = w.2 ∙ name_spelled blank.Kept name own in
-    (global_read bits i name w.0 e no_intrinsic no_function less, e, w.3)
+    (global_read bits i name w.0 e no_intrinsic stands less, e, w.3)
 
 callee_read : (i : Input) (name : Text) → spelled i.cursor ≡ name → is_left_out i.wide name ≡ false → number_of name i.symbols.names < 2 ^ 32 → callee.says i (number_of name i.symbols.names) (with_symbol_use true i)
 unfolding callee

@@ -1,5 +1,5 @@
 -- Constants, names and operands as they are read.
-use Rattle.std.proofs.Common.{◌≡◌, ℕ, ◌-◌, ◌*◌, ◌<◌, ◌≤◌, ◌^◌, Bool, true, false, not, List, [], ◌∷◌, slice_get, if◌then◌else◌, Option, None, Some, is_some, unwrap_or, refl, sym, ap, subst, ◌∙◌, arith}
+use Rattle.std.proofs.Common.{◌≡◌, ℕ, zero, suc, ◌-◌, ◌*◌, ◌<◌, ◌≤◌, ◌^◌, Bool, true, false, not, List, [], ◌∷◌, slice_get, if◌then◌else◌, Option, None, Some, is_some, unwrap_or, refl, sym, ap, subst, ◌∙◌, arith}
 use Rattle.std.specs.Prelude.{nat_lt, nat_le, min, ◌==◌, option_and_then, drop, length, ◌+◌, is_nan, to_bits}
 use Rattle.std.specs.Float.{Float, binary64, float_is_infinite}
 use Rattle.std.specs.Float.Parse.{parse_float}
@@ -30,19 +30,22 @@ use Rattle.ir_forms.specs.declared.fault.Fault.TheVariants.{OutOfRange}
 use Rattle.ir_forms.specs.declared.uses.Wanted.{Wanted}
 use Rattle.ir_forms.specs.declared.uses.Wanted.TheVariants as wants
 use Rattle.ir_forms.specs.declared.input.Input.{Input}
-use Rattle.ir_forms.specs.Input.{limit, advanced, advanced_falls, skip}
+use Rattle.ir_forms.specs.Input.{Form, limit, advanced, advanced_falls, skip}
 use Rattle.ir_forms.specs.Names.{used_symbol, symbol_number, with_symbol_use, with_symbol_use_falls, callee, used_global, used_local, local_number, with_local_use, with_local_use_falls, used_label, used_label_by, target}
 use Rattle.ir_forms.specs.Operand as form
 use Rattle.ir_forms.specs.FloatNumbers.{finite_bits, decimal_bits, hexadecimal_after, is_hexadecimal, float_bits}
-use Rattle.ir_forms.specs.Operand.{zero_of, truth_of, number_at, number_or_zero, number, number_by, word_by, held_float, float_at, float_or_zero, float_number, after_run, after_run_falls, constant_by, constant, cast_operand, cast_operand_by, cast, operand_by}
+use Rattle.ir_forms.specs.Operand.{zero_of, truth_of, number_at, number_or_zero, number, number_by, word_by, held_float, float_at, float_or_zero, float_number, after_run, after_run_falls, constant_by, constant, cast_operand, cast_operand_by, cast, element_by, element_operand, operand_by}
+use Rattle.ir_forms.specs.Outside.{element_begin, cast_begin, outside_name, about, outside_begin_by, outside_begin, outside_rest, outside}
 use Rattle.ir_forms.specs.declared.written.Word.{Word}
 use Rattle.ir_forms.specs.declared.written.Word.TheVariants as sort
 use Rattle.ir_print_law.specs.Fits.{FitsType}
 use Rattle.ir_print.specs.Names.{name_at}
-use Rattle.ir_print_law.specs.Definitions.{functions_of, used_keys, used_symbols}
+use Rattle.ir_print_law.specs.Definitions.{functions_of, used_keys, IsUsed}
 use Rattle.ir_print_law.specs.Parts.{IsGlobalUse, IsOperand, IsTarget}
 use Rattle.ir_print_law.proofs.Forms.{Keeps, Same, stepped, where_true}
-use Rattle.ir_print_law.proofs.Passes.{skip_passes, expect_passes}
+use Rattle.ir_print_law.proofs.Decorations.{past_brackets_passes}
+use Rattle.ir_print_law.proofs.OutsideRead.{any_type_passes, element_begin_passes, cast_begin_passes}
+use Rattle.ir_print_law.proofs.Passes.{Passes, skip_passes, expect_passes, lost_passes}
 use Rattle.ir_print_law.proofs.Reading.{Reading, Within}
 use Rattle.ir_print_law.proofs.Tables.{stays, name_there}
 use Rattle.ir_print_law.proofs.TypesThat.{pointer_type_keeps}
@@ -254,17 +257,17 @@ module _ {m : Module} (r : Reading m) where
       (stays (numbered (spelled i.cursor) i.symbols.names) m.symbols (symbol_number i) (spelled i.cursor) (r.has_symbols (with_symbol_use is_call i) b) (name_there (spelled i.cursor) i.symbols.names))
 
   used_symbol_keeps : (is_call : Bool) (i : Input)
-      → Keeps r.Fore (Same r.Fore) r.Back (used_symbol is_call) (λ n. IsIn (name_at m.symbols n) (used_symbols m is_call) × (name_at m.symbols n ≡ spelled i.cursor)) i
+      → Keeps r.Fore (Same r.Fore) r.Back (used_symbol is_call) (λ n. IsUsed m is_call (name_at m.symbols n) × (name_at m.symbols n ≡ spelled i.cursor)) i
   unfolding used_symbol
   used_symbol_keeps is_call i =
-      let good = λ (n : ℕ). IsIn (name_at m.symbols n) (used_symbols m is_call) × (name_at m.symbols n ≡ spelled i.cursor) in
+      let good = λ (n : ℕ). IsUsed m is_call (name_at m.symbols n) × (name_at m.symbols n ≡ spelled i.cursor) in
       where_true r.Back r.Fore (Same r.Fore) good (λ i. nat_lt (symbol_number i) 4294967296) limit (step symbol_number (with_symbol_use is_call) (with_symbol_use_falls is_call)) i
       (λ e. stepped r.Back r.Fore (Same r.Fore) good symbol_number (with_symbol_use is_call) (with_symbol_use_falls is_call) i
       (λ f. (
         r.on_symbol i is_call f,
         λ b.
             let there = symbol_there is_call i b in
-            (r.from_symbol i is_call b, (subst (λ x. IsIn x (used_symbols m is_call)) (sym there) (r.symbol_is i is_call b), there)),
+            (r.from_symbol i is_call b, (subst (λ x. IsUsed m is_call x) (sym there) (r.symbol_is i is_call b), there)),
       )))
 
   pub callee_keeps : (i : Input) → Keeps r.Fore (Same r.Fore) r.Back callee (λ n. IsIn (name_at m.symbols n) (functions_of m)) i
@@ -290,6 +293,64 @@ module _ {m : Module} (r : Reading m) where
       none : (t : Bool) → not t ≡ true → t ≡ false
       none true e = absurd cc
       none false e = refl
+
+  -- ---- addresses outside
+
+  outside_name_keeps : (i : Input) → Keeps r.Fore (Same r.Fore) r.Back outside_name (IsGlobalUse m) i
+  unfolding outside_name
+  outside_name_keeps i n o h f =
+      let same = h.2.1 in
+      let x = used_global_keeps h.1 n o h.3 (subst r.Fore same f) in
+      (x.0, λ b. let c = x.1 b in (subst r.Back (sym same) c.0, c.1))
+
+  -- a name that was found is used
+  abbrev IsFound : Option ℕ → Type 0
+  IsFound None = Unit {0}
+  IsFound (Some symbol) = IsGlobalUse m symbol
+
+  -- nothing is found by this form
+  none_found : (g : Form (Unit {0})) → Passes r g → (i : Input) → Keeps r.Fore (Same r.Fore) r.Back (g >> pure None) IsFound i
+  none_found g passes i x o h f =
+      let a = passes i h.0 h.1 h.2 f in
+      (subst r.Fore h.3.1 a.0, λ b. let c = a.1 (subst r.Back (sym h.3.1) b) in (c.0, subst IsFound h.3.0 tt))
+
+  begin_by_keeps : (x : Kind) (i : Input) → Keeps r.Fore (Same r.Fore) r.Back (outside_begin_by x) IsFound i
+  begin_by_keeps k.Getelementptr = none_found element_begin (element_begin_passes r)
+  begin_by_keeps k.Bitcast = none_found cast_begin (cast_begin_passes r)
+  begin_by_keeps _ = λ i x o h f.
+      let a = outside_name_keeps i h.0 h.1 h.2 f in
+      (subst r.Fore h.3.1 a.0, λ b. let c = a.1 (subst r.Back (sym h.3.1) b) in (c.0, subst IsFound h.3.0 c.1))
+
+  begin_keeps : (i : Input) → Keeps r.Fore (Same r.Fore) r.Back outside_begin IsFound i
+  unfolding outside_begin
+  begin_keeps i = begin_by_keeps (kind i.cursor) i
+
+  about_keeps : (inner : Form ℕ) → ((i : Input) → Keeps r.Fore (Same r.Fore) r.Back inner (IsGlobalUse m) i) → (i : Input) → Keeps r.Fore (Same r.Fore) r.Back (about inner) (IsGlobalUse m) i
+  about_keeps inner each i x o h f =
+      let t1 = h.3 in
+      let t2 = t1.3 in
+      let a = any_type_passes r i h.0 h.1 h.2 f in
+      let b = each h.1 t1.0 t1.1 t1.2 a.0 in
+      let c = past_brackets_passes r t1.1 t2.0 t2.1 t2.2 b.0 in (
+        subst r.Fore t2.3.1 c.0,
+        λ back.
+            let cb = c.1 (subst r.Back (sym t2.3.1) back) in
+            let bb = b.1 cb.0 in
+            ((a.1 bb.0).0, subst (IsGlobalUse m) t2.3.0 bb.1),
+      )
+
+  rest_keeps : (inner : Form ℕ) → ((i : Input) → Keeps r.Fore (Same r.Fore) r.Back inner (IsGlobalUse m) i) → (found : Option ℕ) (i : Input)
+      → Keeps r.Fore (Same r.Fore) r.Back (outside_rest inner found) (λ x. IsFound found → IsGlobalUse m x) i
+  rest_keeps inner each None i x o h f = let c = about_keeps inner each i x o h f in (c.0, λ b. let d = c.1 b in (d.0, λ u. d.1))
+  rest_keeps inner each (Some symbol) i x o h f = (subst r.Fore h.1 f, λ b. (subst r.Back (sym h.1) b, λ is. subst (IsGlobalUse m) h.0 is))
+
+  pub outside_keeps : (n : ℕ) (i : Input) → Keeps r.Fore (Same r.Fore) r.Back (outside n) (IsGlobalUse m) i
+  unfolding outside
+  outside_keeps zero i x o h f = outside_name_keeps i x o h f
+  outside_keeps (suc n) i x o h f =
+      let a = begin_keeps i h.0 h.1 h.2 f in
+      let b = rest_keeps (outside n) (outside_keeps n) h.0 h.1 x o h.3 a.0 in
+      (b.0, λ back. let bb = b.1 back in let ab = a.1 bb.0 in (ab.0, bb.1 ab.1))
 
 module _ {m : Module} {f : Function} (v : Within m f) where
   -- ---- local names
@@ -386,11 +447,30 @@ module _ {m : Module} {f : Function} (v : Within m f) where
             (b0.0, subst (IsRead bits) t6.3.0 (λ u. (b2.1, b3.1, b5.1))),
       )
 
+  element_by_keeps : (word : Word) (t : Bool) (i : Input) → Keeps v.reading.Fore (Same v.reading.Fore) v.reading.Back (element_by word t) (IsRead word) i
+  element_by_keeps sort.Pointer true i x o h fore =
+      let r = v.reading in
+      let t = h.2 in
+      let a = lost_passes r i t.0 t.1 t.2 fore in
+      let b = outside_keeps r 3 t.1 h.0 h.1 t.3 a.0 in (
+        subst r.Fore h.3.1 b.0,
+        λ back. let bb = b.1 (subst r.Back (sym h.3.1) back) in ((a.1 bb.0).0, subst (IsRead sort.Pointer) h.3.0 (λ u. bb.1)),
+      )
+  element_by_keeps sort.Pointer false i x o h fore = constant_operand sort.Pointer i x o h fore
+  element_by_keeps (sort.Integer bits) t i x o h fore = constant_operand (sort.Integer bits) i x o h fore
+  element_by_keeps sort.Float t i x o h fore = constant_operand sort.Float i x o h fore
+  element_by_keeps sort.Double t i x o h fore = constant_operand sort.Double i x o h fore
+
+  element_keeps : (word : Word) (i : Input) → Keeps v.reading.Fore (Same v.reading.Fore) v.reading.Back (element_operand word) (IsRead word) i
+  unfolding element_operand
+  element_keeps word i = element_by_keeps word i.wide i
+
   operand_by_keeps : (bits : Word) (x : Kind) (i : Input) → Keeps v.reading.Fore (Same v.reading.Fore) v.reading.Back (operand_by bits x) (IsRead bits) i
   operand_by_keeps bits k.LocalName i = local_operand bits i
   operand_by_keeps bits k.LocalNumber i = local_operand bits i
   operand_by_keeps bits k.GlobalName i = global_operand bits i
   operand_by_keeps bits k.Bitcast i = cast_keeps bits i
+  operand_by_keeps bits k.Getelementptr i = element_keeps bits i
   operand_by_keeps bits _ i = constant_operand bits i
 
   pub operand_keeps : (bits : Word) (i : Input) → Keeps v.reading.Fore (Same v.reading.Fore) v.reading.Back (form.operand bits) (IsRead bits) i

@@ -22,7 +22,7 @@ use Rattle.ir_forms.specs.declared.uses.Wanted.TheVariants as wants
 use Rattle.ir_forms.specs.declared.input.Input.{Input}
 use Rattle.ir_forms.specs.declared.written.WrittenType.{WrittenType}
 use Rattle.ir_forms.specs.Input.{Form, advanced, skip, expect, start_of}
-use Rattle.ir_forms.specs.Names.{is_function, sort_of_symbol, symbol_number, used_symbol, used_global, with_symbol_use, with_local_use}
+use Rattle.ir_forms.specs.Names.{may_be_operand, sort_of_symbol, symbol_number, used_symbol, used_global, with_symbol_use, with_local_use}
 use Rattle.ir_forms.specs.Operand as form
 use Rattle.ir_forms.specs.Written as w
 use Rattle.ir_forms.specs.declared.written.Word.{Word}
@@ -42,7 +42,7 @@ use Rattle.ir_print_law.proofs.Words.{global_comes, sign_comes, word_comes}
 use Rattle.ir_print_law.specs.PartsAgain.{IsOperandAgain}
 use Rattle.ir_print_law.specs.Parts.{IsType, IsGlobalUse, IsOperand}
 use Rattle.ir_print_law.specs.Shapes.{Shape, Integer, Float, Pointer, Array, Empty, Struct, Named, Opaque, HasShape, word_of_shape, is_pointer_shape}
-use Rattle.ir_print_law.specs.Definitions.{used_keys, used_symbols}
+use Rattle.ir_print_law.specs.Definitions.{used_keys, IsUsed}
 use Rattle.ir_print_law.proofs.Tables.{begins_itself, stays, name_begins, name_length, name_there, number_within}
 use Rattle.ir_print_law.proofs.State.{Invariant, Ready, Grows, IsLater, Reads}
 use Rattle.ir_print_law.specs.Readings.{after_constant}
@@ -78,13 +78,13 @@ OperandAgain m locals x y o = (n : Module) (others : List Text) → IsLater o n 
 
 -- the name of a global is read where it is an operand
 global_said : (i : Input) (name : Text) → spelled i.cursor ≡ name → is_intrinsic name ≡ false
-    → is_function (option_and_then (slice_get i.symbols.sorts) (place_of name i.symbols.names)) ≡ false → number_of name i.symbols.names < 2 ^ 32
+    → may_be_operand i.wide (option_and_then (slice_get i.symbols.sorts) (place_of name i.symbols.names)) name ≡ true → number_of name i.symbols.names < 2 ^ 32
     → used_global.says i (number_of name i.symbols.names) (with_symbol_use false i)
 unfolding used_global used_symbol
-global_said i name e own no_function less =
+global_said i name e own stands less =
     let no_intrinsic : not (is_intrinsic (spelled i.cursor)) ≡ true = ap (λ (x : Text). not (is_intrinsic x)) e ∙ ap not own in
-    let none : not (is_function (sort_of_symbol i)) ≡ true =
-    ap (λ (x : Text). not (is_function (option_and_then (slice_get i.symbols.sorts) (place_of x i.symbols.names)))) e ∙ ap not no_function in
+    let none : may_be_operand i.wide (sort_of_symbol i) (spelled i.cursor) ≡ true =
+    ap (λ (x : Text). may_be_operand i.wide (option_and_then (slice_get i.symbols.sorts) (place_of x i.symbols.names)) x) e ∙ stands in
     let same : symbol_number i ≡ number_of name i.symbols.names = ap (λ (x : Text). number_of x i.symbols.names) e in
     (tt, i, (tt, i, (no_intrinsic, refl), (none, refl)), (tt, i, (ap (λ (n : ℕ). nat_lt n 4294967296) same ∙ few (number_of name i.symbols.names) less, refl), (same, refl)))
 
@@ -128,6 +128,7 @@ by_constant bits i o x k.LocalName h said = absurd h
 by_constant bits i o x k.LocalNumber h said = absurd h
 by_constant bits i o x k.GlobalName h said = absurd h
 by_constant bits i o x k.Bitcast h said = absurd h
+by_constant bits i o x k.Getelementptr h said = absurd h
 by_constant bits i o x _ h said = (x, o, said, (refl, refl))
 
 -- so it is read as one
@@ -236,7 +237,7 @@ module _ {m : Module} {f : Function} (v : Invariant m f) where
   }
 
   -- a global name was used
-  pub symbol_ready : (is_call : Bool) (i : Input) (bytes rest : Text) (s : ℕ) (name : Text) → spelled i.cursor ≡ name → IsIn name (used_symbols m is_call) → Ready v s i bytes → length rest + 1 ≤ length bytes
+  pub symbol_ready : (is_call : Bool) (i : Input) (bytes rest : Text) (s : ℕ) (name : Text) → spelled i.cursor ≡ name → IsUsed m is_call name → Ready v s i bytes → length rest + 1 ≤ length bytes
       → Stands (with_symbol_use is_call i).cursor rest → Ready v s (with_symbol_use is_call i) rest
   symbol_ready is_call i bytes rest s name e there ready le at =
       let room = ready.room in
@@ -251,7 +252,7 @@ module _ {m : Module} {f : Function} (v : Invariant m f) where
           symbols = let h = room.symbols in omega (arith, h, le, longer);
           locals = let h = room.locals in omega (arith, h, le);
         };
-        holds = v.on_symbol i is_call (subst (λ (x : Text). IsIn x (used_symbols m is_call)) (sym e) there) ready.holds;
+        holds = v.on_symbol i is_call (subst (λ (x : Text). IsUsed m is_call x) (sym e) there) ready.holds;
       }
 
   -- there is room for a global name
@@ -271,7 +272,7 @@ module _ {m : Module} {f : Function} (v : Invariant m f) where
   sign_less b gap word rest = let a = length-append gap (b ∷ (word ++ rest)) in let c = length-append word rest in omega (arith, a, c)
 
   -- the name of a global as an operand
-  pub global_reads : (name : Text) (i : Input) (gap rest : Text) (s : ℕ) → IsIn name (used_symbols m false) → is_intrinsic name ≡ false → AreBlanks gap → IsSeam rest
+  pub global_reads : (name : Text) (i : Input) (gap rest : Text) (s : ℕ) → IsUsed m false name → is_intrinsic name ≡ false → AreBlanks gap → IsSeam rest
       → Ready v s i (gap ++ 64 ∷ (name_text blank.Kept name ++ rest)) → Reads v s used_global i rest (λ n o. slice_get o.symbols.names n ≡ Some name)
   global_reads name i gap rest s there own blanks seam ready =
       let is = v.is_symbol false name there in
@@ -280,7 +281,7 @@ module _ {m : Module} {f : Function} (v : Invariant m f) where
       let n = number_of name i.symbols.names in (
         number_of name i.symbols.names,
         with_symbol_use false i,
-        global_said i name e own (v.no_function i name there ready.holds) (symbol_few i _ s name ready),
+        global_said i name e own (ap (λ (wide : Bool). may_be_operand wide (option_and_then (slice_get i.symbols.sorts) (place_of name i.symbols.names)) name) ready.forms ∙ v.may_stand i name there ready.holds) (symbol_few i _ s name ready),
         symbol_ready false i (gap ++ 64 ∷ (name_text blank.Kept name ++ rest)) rest s name e there ready (sign_less 64 gap (name_text blank.Kept name) rest) c.3,
         symbol_grows false i,
         symbol_there i name false e,

@@ -26,7 +26,7 @@ use Rattle.ir_forms.specs.declared.decorating.Trail.TheVariants as trail
 use Rattle.ir_forms.specs.declared.input.Input.{Input}
 use Rattle.ir_forms.specs.declared.site.Site.{Site}
 use Rattle.ir_forms.specs.declared.written.WrittenType.{WrittenType}
-use Rattle.ir_forms.specs.Input.{Form, unexpected, unread, skip}
+use Rattle.ir_forms.specs.Input.{Form, unexpected, skip}
 use Rattle.ir_forms.specs.Decorations.{either}
 use Rattle.ir_forms.specs.Records.{trail_of}
 use Rattle.ir_forms.specs.Ops.{as_op}
@@ -35,7 +35,6 @@ use Rattle.ir_forms.specs.FloatOps.{float_word_here, number_op_by, as_number}
 use Rattle.ir_forms.specs.declared.float_ops.FloatWord.{FloatWord}
 use Rattle.ir_print_law.proofs.AnewFloats.{float_word_same, float_op_same}
 use Rattle.ir_forms.specs.Instructions.{wide_op_by, wide_op, named_op_by}
-use Rattle.ir_forms.specs.Starts.{is_indirect_callee}
 use Rattle.ir_forms.specs.Written.{word_of}
 use Rattle.ir_forms.specs.Numbers.{typed_integer, pair, arithmetic_of, arithmetic, wide_here, wide_by, wide_or_resized, wide_arithmetic, exact, is_exact, resize_of, resize, comparison_of, comparison_by, comparison, compare, bit_type, condition, resize_by, resized, arithmetic_by, integer_op}
 use Rattle.ir_forms.specs.Memory.{alloca, place_of, load, store}
@@ -45,17 +44,18 @@ use Rattle.ir_forms.specs.Choices.{typed_pair, select, separated, incoming, entr
 use Rattle.ir_forms.specs.StandIns.{stand_in, first_of, null_of}
 use Rattle.ir_forms.specs.declared.stand_ins.StandIn.{StandIn}
 use Rattle.ir_forms.specs.declared.stand_ins.StandIn.TheVariants.{Itself, First, Null}
-use Rattle.ir_forms.specs.Calls.{called_by, called, call_after, call_of, typed_call, named_call_by, named_call, call, valued, unnamed, void_call, numbered_call, call_by, call_statement_after, call_statement, sees_call, tail_call, tail_call_statement}
+use Rattle.ir_forms.specs.Calls.{call_of, typed_call, named_call_by, named_call, call, valued, unnamed, void_call, numbered_call, call_by, call_statement_after, call_statement, sees_call, tail_call, tail_call_statement}
 use Rattle.ir_forms.specs.declared.written.Word.{Word}
 use Rattle.ir_forms.specs.declared.written.Word.TheVariants as sort
 use Rattle.ir_print_law.specs.Shapes.{Integer}
 use Rattle.ir_print_law.proofs.Seats.{Seat, Beside, sees_same, spelling_same, kind_same, after_same, third_same}
 use Rattle.ir_print_law.proofs.Sim.{Between, Any, Equal, At, Both, Same, past, both, by, and, then, give, gives, refuses, so, tells, by_kind, kinds, looks, lists, lists_by}
 use Rattle.ir_print_law.proofs.AnewSteps.{skip_same, expect_same, seen}
-use Rattle.ir_print_law.proofs.Names.{set_sort_at, callee_same, new_value_at, numbered_value_at, unnamed_value_at, incoming_label_at}
-use Rattle.ir_print_law.proofs.AnewTypes.{Written, written_later, bits_same, intern_at, integer_scalar_at, scalar_at, any_type_at}
+use Rattle.ir_print_law.proofs.Names.{set_sort_at, new_value_at, numbered_value_at, unnamed_value_at, incoming_label_at}
+use Rattle.ir_print_law.proofs.AnewTypes.{Written, written_later, bits_same, intern_at, integer_scalar_at, scalar_at, result_type_at, any_type_at}
 use Rattle.ir_print_law.proofs.Again.{again_at, pointer_again_at}
-use Rattle.ir_print_law.proofs.AnewOperands.{operand_same, operand_at, argument_same, arguments_same, typed_same, comma_same, indices_same}
+use Rattle.ir_print_law.proofs.AnewOperands.{operand_same, operand_at, argument_same, typed_same, comma_same, indices_same}
+use Rattle.ir_print_law.proofs.AnewCalls.{call_after_at}
 use Rattle.ir_print_law.proofs.AnewDecorations.{optional_same, past_brackets_same, decorations_same, flagged_same}
 use Rattle.ir_print_law.proofs.AnewRecords.{Trails, equals_is, stands_same, instruction_end_same, trailed_at}
 
@@ -302,21 +302,11 @@ module _ (s : Seat) where
 
   -- ---- calls
 
-  called_by_same : (x : Kind) → Same s (called_by x)
-  called_by_same k.GlobalName = callee_same s
-  called_by_same _ = refuses s (unread is_indirect_callee)
-
-  call_after_at : (a b : ℕ) → Both s Any (call_after a) (call_after b)
-  unfolding call_after called
-  call_after_at a b i j =
-      and s (by_kind s called_by called_by_same i j) (λ f g i j. past s (expect_same s k.OpenRound i j) (λ i j. and s (arguments_same s i j) (λ xs ys i j.
-      past s (expect_same s k.CloseRound i j) (λ i j. past s (decorations_same s spot.Call i j) (gives s (record { returned = a; callee = f; arguments = xs }) (record { returned = b; callee = g; arguments = ys }))))))
-
   call_of_at : (value a b : ℕ) → Both s Any (call_of value a) (call_of value b)
-  call_of_at value a b i j = and s (call_after_at a b i j) (λ x y i j. past s (set_sort_at s value (local.Value a) (local.Value b) refl i j) (gives s x y))
+  call_of_at value a b i j = and s (call_after_at s a b i j) (λ x y i j. past s (set_sort_at s value (local.Value a) (local.Value b) refl i j) (gives s x y))
 
   typed_call_same : (value : ℕ) → Same s (typed_call value)
-  typed_call_same value i j = and s (scalar_at s i j) (λ v u. call_of_at value v.id u.id)
+  typed_call_same value i j = and s (result_type_at s i j) (λ v u. call_of_at value v.id u.id)
 
   -- an operation after which the same may follow
   pub valued_at : (value : ℕ) (x y : Op) → trail_of x ≡ trail_of y → Both s Any (valued value x) (valued value y)
@@ -354,7 +344,7 @@ module _ (s : Seat) where
 
   named_call_at : (value : ℕ) → Both s Trails (named_call value) (named_call value)
   named_call_at value i j =
-      and s (scalar_at s i j) (λ v u i j.
+      and s (result_type_at s i j) (λ v u i j.
       looks s {V = Trails} stand_in stand_in (named_call_by value v.id) (named_call_by value u.id) i j (stands_same s i j) (λ x. named_call_by_at value v.id u.id x i j))
 
   call_at : (value : ℕ) → Both s Trails (call value) (call value)
@@ -363,7 +353,7 @@ module _ (s : Seat) where
 
   void_call_same : Same s void_call
   unfolding void_call
-  void_call_same i j = and s (past s (skip_same s i j) (intern_at s type.Void type.Void)) (λ a b. call_after_at a b)
+  void_call_same i j = and s (past s (skip_same s i j) (intern_at s type.Void type.Void)) (λ a b. call_after_at s a b)
 
   numbered_call_same : Same s numbered_call
   unfolding numbered_call

@@ -1,9 +1,9 @@
 -- Numbers of operands and types are within the tables where these are printable, whatever names come after those of the tables.
-use Rattle.std.proofs.Common.{◌≡◌, ℕ, suc, ◌<◌, arith, drop, map, slice_get, List, [], ◌∷◌, ◌++◌, length, Option, Some, sym, ap, subst, ◌∙◌, inl, inr}
+use Rattle.std.proofs.Common.{◌≡◌, ℕ, false, suc, ◌<◌, arith, drop, map, slice_get, List, [], ◌∷◌, ◌++◌, length, Option, Some, sym, ap, subst, ◌∙◌, inl, inr}
 use Rattle.std.specs.List.{AllByRecursion}
 use Rattle.std.proofs.lemmas.List.{map-append}
 use Rattle.std.proofs.lemmas.Option.{slice_get_within}
-use Rattle.lemmas.specs.Lists.{in_either, IsIn}
+use Rattle.lemmas.specs.Lists.{in_either, in_first, in_second, IsIn}
 use Rattle.ir_ast.specs.Names.{place_of}
 use Rattle.ir_ast.specs.declared.argument.Argument.{Argument}
 use Rattle.ir_ast.specs.declared.function.Function.{Function}
@@ -16,10 +16,10 @@ use Rattle.ir_ast.specs.declared.operand.Operand.{Operand}
 use Rattle.ir_ast.specs.declared.operand.Operand.TheVariants as operand
 use Rattle.ir_tokens.specs.Bytes.{Text}
 use Rattle.ir_print.specs.Names.{name_at}
-use Rattle.ir_print_law.specs.Definitions.{value_keys, label_keys, target_keys, defined_globals, declared_functions, defined_functions, functions_of}
+use Rattle.ir_print_law.specs.Definitions.{IsUsed, value_keys, label_keys, target_keys, defined_globals, declared_functions, defined_functions, functions_of}
 use Rattle.ir_print_law.specs.ModuleNames.{HasModuleNames}
 use Rattle.ir_print_law.specs.Parts.{IsType, IsVoid, IsPointer, IsPlaceType, IsOperand, IsArgument, ArePair, IsConverted, IsReturned}
-use Rattle.ir_print_law.specs.PartsWithin.{HasType, HasSymbol, HasGlobal, HasFunction, HasLocal, HasValue, HasBlock, HasTarget, IsOperandWithin, IsArgumentWithin, ArePairWithin, IsConvertedWithin}
+use Rattle.ir_print_law.specs.PartsWithin.{HasType, HasSymbol, HasGlobal, HasFunction, HasAddress, HasLocal, HasValue, HasBlock, HasTarget, IsOperandWithin, IsArgumentWithin, ArePairWithin, IsConvertedWithin}
 use Rattle.ir_print_law.specs.Shapes.{Shape, Pointer, Opaque, word_of_shape}
 use Rattle.ir_print_law.proofs.DefinedWithin.{AreDefinedWithin, all_at, any_all}
 use Rattle.ir_print_law.proofs.FoundNames.{found_number, in_all, place_in, place_after, item_in, each_number, item_keys, items_stay}
@@ -61,11 +61,13 @@ module _ (m : Module) (own : HasModuleNames m) where
   pub globals_stay : (more : List Text) → defined_globals (wide_module m more) ≡ defined_globals m
   globals_stay more = items_stay (λ (x : Global). x.symbol) m.globals m.symbols (m.symbols ++ more) globals_have (begins_with m.symbols more)
 
+  pub declared_stay : (more : List Text) → declared_functions (wide_module m more) ≡ declared_functions m
+  declared_stay more = items_stay (λ (x : Declare). x.symbol) m.declares m.symbols (m.symbols ++ more) declares_have (begins_with m.symbols more)
+
   pub functions_stay : (more : List Text) → functions_of (wide_module m more) ≡ functions_of m
   functions_stay more =
       let begins = begins_with m.symbols more in
-      let declared : declared_functions (wide_module m more) ≡ declared_functions m =
-      items_stay (λ (x : Declare). x.symbol) m.declares m.symbols (m.symbols ++ more) declares_have begins in
+      let declared = declared_stay more in
       let defined : defined_functions (wide_module m more) ≡ defined_functions m =
       items_stay (λ (x : Function). x.symbol) m.functions m.symbols (m.symbols ++ more) functions_have begins in
       ap (λ (l : List Text). l ++ defined_functions (wide_module m more)) declared ∙ ap (λ (l : List Text). declared_functions m ++ l) defined
@@ -74,14 +76,15 @@ module _ (m : Module) (own : HasModuleNames m) where
   at_places : (n : ℕ) (key : Text) → slice_get m.symbols n ≡ Some key → place_of key m.symbols ≡ Some n
   at_places n key e = (own.symbols n key e).1
 
-  pub global_within : (n : ℕ) → ((more : List Text) → IsIn (name_at (m.symbols ++ more) n) (defined_globals (wide_module m more))) → HasGlobal m n
-  global_within n found =
-      let number = λ (x : Global). x.symbol in
-      let within : (k : ℕ) → IsIn k (map number m.globals) → HasSymbol m k = λ k there. each_number number (HasSymbol m) m.globals k globals_have there in
-      let same : (more : List Text) → defined_globals (wide_module m more) ≡ keys_at m.symbols (map number m.globals) = λ more. globals_stay more ∙ item_keys number m.globals m.symbols in
-      let there = found_number m.symbols (map number m.globals) n within at_places (λ more. subst (λ (l : List Text). IsIn (name_at (m.symbols ++ more) n) l) (same more) (found more)) in
-      let p = item_in number m.globals n there in
-      (within n there, (p.0, subst (λ (k : ℕ). slice_get m.sorts k ≡ Some (symbol.Global p.0)) p.3 (own.globals p.0 p.1 p.2), slice_get_within m.globals p.0 p.1 p.2))
+  global_numbers : List ℕ
+  global_numbers = map (λ (x : Global). x.symbol) m.globals
+
+  global_there : (n : ℕ) → IsIn n global_numbers → HasGlobal m n
+  global_there n there =
+      let p = item_in (λ (x : Global). x.symbol) m.globals n there in (
+        each_number (λ (x : Global). x.symbol) (HasSymbol m) m.globals n globals_have there,
+        (p.0, subst (λ (k : ℕ). slice_get m.sorts k ≡ Some (symbol.Global p.0)) p.3 (own.globals p.0 p.1 p.2), slice_get_within m.globals p.0 p.1 p.2),
+      )
 
   -- the numbers of all functions
   abbrev function_numbers : List ℕ
@@ -122,6 +125,37 @@ module _ (m : Module) (own : HasModuleNames m) where
       let same : (more : List Text) → functions_of (wide_module m more) ≡ keys_at m.symbols function_numbers = λ more. functions_stay more ∙ function_keys in
       function_there n (found_number m.symbols function_numbers n (λ k there. (function_there k there).0) at_places
       (λ more. subst (λ (l : List Text). IsIn (name_at (m.symbols ++ more) n) l) (same more) (found more)))
+
+  -- the numbers of all globals and functions
+  address_numbers : List ℕ
+  address_numbers = global_numbers ++ function_numbers
+
+  address_keys : (more : List Text) → defined_globals (wide_module m more) ++ functions_of (wide_module m more) ≡ keys_at m.symbols address_numbers
+  address_keys more =
+      ap (λ (l : List Text). l ++ functions_of (wide_module m more)) (globals_stay more ∙ item_keys (λ (x : Global). x.symbol) m.globals m.symbols)
+      ∙ ap (λ (l : List Text). keys_at m.symbols global_numbers ++ l) (functions_stay more ∙ function_keys)
+      ∙ sym (map-append (name_at m.symbols) global_numbers function_numbers)
+
+  address_there : (n : ℕ) → IsIn n address_numbers → HasAddress m n
+  address_there n there = elim (in_either n global_numbers function_numbers there) [
+    | inl global ↦ inl (global_there n global)
+    | inr function ↦ inr (function_there n function)
+  ]
+
+  address_symbol : (n : ℕ) → HasAddress m n → HasSymbol m n
+  address_symbol n (inl h) = h.0
+  address_symbol n (inr h) = h.0
+
+  -- a name that is used as an operand is among both
+  address_used : (more : List Text) (name : Text) → IsUsed (wide_module m more) false name → IsIn name (defined_globals (wide_module m more) ++ functions_of (wide_module m more))
+  address_used more name (inl is) = in_first name (defined_globals (wide_module m more)) (functions_of (wide_module m more)) is
+  address_used more name (inr h) =
+      in_second name (defined_globals (wide_module m more)) (functions_of (wide_module m more)) (in_first name (declared_functions (wide_module m more)) (defined_functions (wide_module m more)) h.1)
+
+  pub address_within : (n : ℕ) → ((more : List Text) → IsUsed (wide_module m more) false (name_at (m.symbols ++ more) n)) → HasAddress m n
+  address_within n found =
+      address_there n (found_number m.symbols address_numbers n (λ k there. address_symbol k (address_there k there)) at_places
+      (λ more. subst (λ (l : List Text). IsIn (name_at (m.symbols ++ more) n) l) (address_keys more) (address_used more (name_at (m.symbols ++ more) n) (found more))))
 
 -- ---- local names
 
@@ -183,9 +217,9 @@ module _ (m : Module) (f : Function) (own : HasModuleNames m) (h : AreDefinedWit
   pub operand_within : (x : Operand) → Wide m f (λ m f. (bits : Word) × IsOperand m f bits x) → IsOperandWithin m f x
   operand_within (operand.Constant x) is = tt
   operand_within (operand.Local value) is = value_within f h value (λ more. (is more).1)
-  operand_within (operand.Global n) is = global_within m own n (λ more. (is more).1.0)
+  operand_within (operand.Global n) is = address_within m own n (λ more. (is more).1.0)
   operand_within (operand.CastGlobal from n to) is =
-      (pointer_within from [] (is []).1.0, global_within m own n (λ more. (is more).1.1.0), pointer_within to [] (is []).1.2)
+      (pointer_within from [] (is []).1.0, address_within m own n (λ more. (is more).1.1.0), pointer_within to [] (is []).1.2)
 
   pub argument_within : (x : Argument) → Wide m f (λ m f. IsArgument m f x) → IsArgumentWithin m f x
   argument_within x is = (type_within (is []).0 x.written [] (is []).1.0, operand_within x.operand (λ more. (word_of_shape (is more).0, (is more).2)))

@@ -1,5 +1,5 @@
 -- What is known of a state while a module is read: of what was read before it, and of where reading ends.
-use Rattle.std.specs.Prelude.{◌≡◌, ◌<◌, ℕ, Bool, List, [], ◌∷◌, ◌++◌, length}
+use Rattle.std.specs.Prelude.{◌≡◌, ◌<◌, ℕ, Bool, Option, List, [], ◌∷◌, ◌++◌, length}
 use Rattle.lemmas.specs.Lists.{IsIn}
 use Rattle.ir_ast.specs.declared.function.Function.{Function}
 use Rattle.ir_ast.specs.declared.function.LocalSort.{LocalSort}
@@ -8,16 +8,21 @@ use Rattle.ir_ast.specs.declared.ir_type.IrType.{IrType}
 use Rattle.ir_ast.specs.declared.module.Module.{Module}
 use Rattle.ir_tokens.specs.declared.token.Kind.TheVariants as k
 use Rattle.ir_forms.specs.Cursor.{kind, spelled, local_key}
+use Rattle.ir_forms.specs.declared.fault.Fault.{Fault}
 use Rattle.ir_forms.specs.declared.uses.Wanted.{Wanted}
 use Rattle.ir_forms.specs.declared.input.Input.{Input}
 use Rattle.ir_forms.specs.Input.{advanced}
 use Rattle.ir_forms.specs.Names.{with_struct_use, with_symbol_use, with_local_use, with_sort, new_value, numbered_value, unnamed_value, new_label, numbered_label, unnamed_label}
 use Rattle.ir_forms.specs.Written.{with_type_interned}
 use Rattle.name_text.specs.Readings.{AreBytes}
-use Rattle.ir_print_law.specs.Definitions.{defined_structs, used_keys, used_symbols}
+use Rattle.ir_print_law.specs.Definitions.{defined_structs, used_keys, IsUsed}
 use Rattle.ir_print_law.proofs.Forms.{Keeps, Any}
 use Rattle.ir_print_law.proofs.OneKind.{IsNext}
 use Rattle.ir_print_law.proofs.Tables.{Begins, AreOrdered}
+
+-- the state where this is lost
+abbrev pub with_lost : Option Fault → Input → Input
+with_lost lost i = record i { lost = lost }
 
 -- `Fore` holds after a form that names nothing new where it holds before it. `Back` says that reading goes on to this module: where it holds after such a form, it holds before it.
 pub record Reading (m : Module) : Type 1 where
@@ -38,7 +43,9 @@ pub record Reading (m : Module) : Type 1 where
   pub struct_is : (i : Input) → Back (with_struct_use i) → IsIn (spelled i.cursor) (defined_structs m)
   pub on_symbol : (i : Input) (is_call : Bool) → Fore i → Fore (with_symbol_use is_call i)
   pub from_symbol : (i : Input) (is_call : Bool) → Back (with_symbol_use is_call i) → Back i
-  pub symbol_is : (i : Input) (is_call : Bool) → Back (with_symbol_use is_call i) → IsIn (spelled i.cursor) (used_symbols m is_call)
+  pub symbol_is : (i : Input) (is_call : Bool) → Back (with_symbol_use is_call i) → IsUsed m is_call (spelled i.cursor)
+  pub on_lost : (i : Input) (lost : Option Fault) → Fore i → Fore (with_lost lost i)
+  pub from_lost : (i : Input) (lost : Option Fault) → Back (with_lost lost i) → Back i
 
 -- The same within a function.
 pub record Within (m : Module) (f : Function) : Type 1 where
@@ -104,7 +111,9 @@ pub record Kit (m : Module) (f : Function) (Fore Back : Input → Type 0) : Type
   pub struct_is : (i : Input) → Back (with_struct_use i) → IsIn (spelled i.cursor) (defined_structs m)
   pub on_symbol : (i : Input) (is_call : Bool) → Fore i → Fore (with_symbol_use is_call i)
   pub from_symbol : (i : Input) (is_call : Bool) → Back (with_symbol_use is_call i) → Back i
-  pub symbol_is : (i : Input) (is_call : Bool) → Back (with_symbol_use is_call i) → IsIn (spelled i.cursor) (used_symbols m is_call)
+  pub symbol_is : (i : Input) (is_call : Bool) → Back (with_symbol_use is_call i) → IsUsed m is_call (spelled i.cursor)
+  pub on_lost : (i : Input) (lost : Option Fault) → Fore i → Fore (with_lost lost i)
+  pub from_lost : (i : Input) (lost : Option Fault) → Back (with_lost lost i) → Back i
   pub on_local : (i : Input) (wanted : Wanted) → Fore i → Fore (with_local_use wanted i)
   pub from_local : (i : Input) (wanted : Wanted) → Back (with_local_use wanted i) → Back i
   pub local_is : (i : Input) (wanted : Wanted) → Back (with_local_use wanted i) → IsIn (local_key i.cursor) (used_keys f wanted)
@@ -130,6 +139,8 @@ within_of {Fore = Fore} {Back = Back} kit = record {
     on_symbol = kit.on_symbol;
     from_symbol = kit.from_symbol;
     symbol_is = kit.symbol_is;
+    on_lost = kit.on_lost;
+    from_lost = kit.from_lost;
   };
   has_locals = kit.has_locals;
   on_local = kit.on_local;

@@ -81,6 +81,8 @@ module _ (m : Module) where
     on_symbol = λ i is_call h. h;
     from_symbol = λ i is_call back. back;
     symbol_is = λ i is_call back. absurd back;
+    on_lost = λ i lost h. h;
+    from_lost = λ i lost back. back;
     on_local = λ i wanted h. new_slots (length i.types) i.locals.sorts (place_of _ i.locals.names) h;
     from_local = λ i wanted back. back;
     local_is = λ i wanted back. absurd back;

@@ -15,7 +15,7 @@ use Rattle.ir_text.specs.Read.{start_in}
 use Rattle.name_text.specs.Readings.{AreBytes}
 use Rattle.ir_print.specs.Names.{name_at}
 use Rattle.ir_print_law.specs.Readings.{IsKey}
-use Rattle.ir_print_law.specs.Definitions.{AreDefined, defined_keys, parameter_keys, block_keys, value_keys_of, value_keys, label_keys, defined_globals, functions_of, used_keys, used_symbols}
+use Rattle.ir_print_law.specs.Definitions.{AreDefined, defined_keys, parameter_keys, block_keys, value_keys_of, value_keys, label_keys, defined_globals, declared_functions, defined_functions, functions_of, used_keys, IsUsed}
 use Rattle.ir_print_law.specs.Printable.{IsFunction, IsPrintable, IsSymbol}
 use Rattle.ir_print_law.proofs.State.{Ready}
 use Rattle.ir_print_law.proofs.Defining.{dropped}
@@ -78,9 +78,11 @@ function_keys m f is =
 
 -- ---- what is used is named as it is read
 
-symbol_named : (m : Module) → IsPrintable m → (is_call : Bool) (name : Text) → IsIn name (used_symbols m is_call) → AreBytes name × (is_left_out m.wide name ≡ false)
+symbol_named : (m : Module) → IsPrintable m → (is_call : Bool) (name : Text) → IsUsed m is_call name → AreBytes name × (is_left_out m.wide name ≡ false)
 symbol_named m is true name there = all_in (IsSymbol m.wide) (defined_globals m ++ functions_of m) name is.symbols.0 (in_second name (defined_globals m) (functions_of m) there)
-symbol_named m is false name there = all_in (IsSymbol m.wide) (defined_globals m ++ functions_of m) name is.symbols.0 (in_first name (defined_globals m) (functions_of m) there)
+symbol_named m is false name (inl there) = all_in (IsSymbol m.wide) (defined_globals m ++ functions_of m) name is.symbols.0 (in_first name (defined_globals m) (functions_of m) there)
+symbol_named m is false name (inr h) =
+    all_in (IsSymbol m.wide) (defined_globals m ++ functions_of m) name is.symbols.0 (in_second name (defined_globals m) (functions_of m) (in_first name (declared_functions m) (defined_functions m) h.1))
 
 pub nobody_named : (m : Module) → IsPrintable m → AreNamed m nobody
 nobody_named m is = record { is_key = λ wanted key there. absurd (no_key wanted key there); is_symbol = symbol_named m is }
@@ -123,7 +125,7 @@ ready_at_start m named bytes few = record {
   room = record { types = omega (arith, few); structs = omega (arith, few); symbols = omega (arith, few); locals = omega (arith, few) };
   holds = (
     record { even = refl; known = λ name is. absurd is; new = λ name none. refl; uses_so = tt },
-    record { even = refl; are_globals = λ name is. absurd is; are_functions = λ name is. absurd is; new = λ name none. refl; no_function = λ name is. refl; uses_so = tt },
+    record { even = refl; are_globals = λ name is. absurd is; are_functions = λ name is. absurd is; new = λ name none. refl; no_function = λ name is. refl; no_defined = λ name is. refl; uses_so = tt },
     locals_empty,
     record { values_are = refl; unnamed_is = refl; none_missing = refl; structs_are = refl; globals_are = refl; declares_are = refl; functions_are = refl },
   );

@@ -1,5 +1,5 @@
 -- The state of reading a printed module again, and how one form follows another.
-use Rattle.std.specs.Prelude.{◌≡◌, ℕ, ◌+◌, ◌≤◌, Bool, false, List, length, slice_get, option_and_then}
+use Rattle.std.specs.Prelude.{◌≡◌, ℕ, ◌+◌, ◌≤◌, Bool, true, false, List, length, slice_get, option_and_then}
 use Rattle.lemmas.specs.Lists.{IsIn}
 use Rattle.ir_ast.specs.Names.{place_of}
 use Rattle.ir_ast.specs.declared.function.Function.{Function}
@@ -10,13 +10,13 @@ use Rattle.ir_forms.specs.Cursor.{spelled, local_key}
 use Rattle.ir_forms.specs.declared.uses.Wanted.{Wanted}
 use Rattle.ir_forms.specs.declared.input.Input.{Input}
 use Rattle.ir_forms.specs.Input.{Form, advanced}
-use Rattle.ir_forms.specs.Names.{is_function, with_struct_use, with_symbol_use, with_local_use}
+use Rattle.ir_forms.specs.Names.{may_be_operand, with_struct_use, with_symbol_use, with_local_use}
 use Rattle.ir_forms.specs.Written.{has_opaque, with_type_interned}
 use Rattle.ir_forms.specs.Intrinsics.{is_left_out}
 use Rattle.name_text.specs.Readings.{AreBytes}
 use Rattle.ir_print_law.specs.Readings.{IsKey}
 use Rattle.ir_print_law.specs.Stands.{Stands}
-use Rattle.ir_print_law.specs.Definitions.{defined_structs, defined_globals, used_keys, used_symbols}
+use Rattle.ir_print_law.specs.Definitions.{defined_structs, used_keys, IsUsed}
 use Rattle.ir_print_law.proofs.Tables.{Begins, AreInOrder}
 
 -- What holds of the names of the state all along, which no form of a type, an operand or an operation breaks.
@@ -24,14 +24,14 @@ pub record Invariant (m : Module) (f : Function) : Type 1 where
   pub Holds : Input → Type 0
   -- what is used is named as it is read
   pub is_key : (wanted : Wanted) (key : Text) → IsIn key (used_keys f wanted) → IsKey key
-  pub is_symbol : (is_call : Bool) (name : Text) → IsIn name (used_symbols m is_call) → AreBytes name × (is_left_out m.wide name ≡ false)
+  pub is_symbol : (is_call : Bool) (name : Text) → IsUsed m is_call name → AreBytes name × (is_left_out m.wide name ≡ false)
   pub on_token : (i : Input) → Holds i → Holds (advanced i)
   pub on_type : (i : Input) (t : IrType) → Holds i → Holds (with_type_interned t i)
   pub on_struct : (i : Input) → IsIn (spelled i.cursor) (defined_structs m) → Holds i → Holds (with_struct_use i)
-  pub on_symbol : (i : Input) (is_call : Bool) → IsIn (spelled i.cursor) (used_symbols m is_call) → Holds i → Holds (with_symbol_use is_call i)
+  pub on_symbol : (i : Input) (is_call : Bool) → IsUsed m is_call (spelled i.cursor) → Holds i → Holds (with_symbol_use is_call i)
   pub on_local : (i : Input) (wanted : Wanted) → IsIn (local_key i.cursor) (used_keys f wanted) → Holds i → Holds (with_local_use wanted i)
-  pub no_function : (i : Input) (name : Text) → IsIn name (defined_globals m) → Holds i
-      → is_function (option_and_then (slice_get i.symbols.sorts) (place_of name i.symbols.names)) ≡ false
+  pub may_stand : (i : Input) (name : Text) → IsUsed m false name → Holds i
+      → may_be_operand m.wide (option_and_then (slice_get i.symbols.sorts) (place_of name i.symbols.names)) name ≡ true
 
 -- there is room for this number of new types, and of new names of each sort
 pub record HasRoom (i : Input) (bytes : ℕ) : Type 0 where

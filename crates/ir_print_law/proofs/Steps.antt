@@ -75,6 +75,11 @@ module _ {m : Module} {f : Function} (v : Invariant m f) where
   pub so : {A : Type 0} (form : Form A) (i : Input) (rest : Text) (s : ℕ) (P Q : A → Input → Type 0) → Reads v s form i rest P → ((a : A) (o : Input) → Grows i o → P a o → Q a o) → Reads v s form i rest Q
   so form i rest s P Q h k = (h.0, h.1, h.2, h.3, h.4, k h.0 h.1 h.4 h.5)
 
+  -- a form that says what another one says
+  pub says_too : {A : Type 0} (form other : Form A) (i : Input) (rest : Text) (s : ℕ) (Q : A → Input → Type 0) → ((a : A) (o : Input) → form.says i a o → other.says i a o)
+      → Reads v s form i rest Q → Reads v s other i rest Q
+  says_too form other i rest s Q said h = (h.0, h.1, said h.0 h.1 h.2, h.3, h.4, h.5)
+
   -- a value, and nothing is read
   pub given : {A : Type 0} (a : A) (i : Input) (rest : Text) (s : ℕ) (Q : A → Input → Type 0) → Ready v s i rest → Q a i → Reads v s (pure {E = Fault} {left = left} a) i rest Q
   given a i rest s Q ready q = (a, i, (refl, refl), ready, grows_itself i, q)

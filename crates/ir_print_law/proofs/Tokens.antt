@@ -62,6 +62,8 @@ having r k = record {
   on_symbol = λ i is_call h. (r.on_symbol i is_call h.0, h.1);
   from_symbol = r.from_symbol;
   symbol_is = r.symbol_is;
+  on_lost = λ i lost h. (r.on_lost i lost h.0, h.1);
+  from_lost = r.from_lost;
 }
 
 abbrev pub having_within : {m : Module} {f : Function} → Within m f → ℕ → Within m f

@@ -24,7 +24,7 @@ use Rattle.ir_forms.specs.declared.written.FloatType.TheVariants as size
 use Rattle.ir_forms.specs.Input.{limit, advanced, advanced_falls, skip}
 use Rattle.ir_forms.specs.Names.{struct_name}
 use Rattle.ir_forms.specs.Written as w
-use Rattle.ir_forms.specs.Written.{has_opaque, intern_pointer, opaque_type, stars_after, part_of, integer, bits_at, length_at, array_length, pointers, star_or, at_star, at_brace, comma_or, after_field, field, field_takes, before, struct_of, starred as with_starred, with_stars, interned, part, firm, Firm, no_type}
+use Rattle.ir_forms.specs.Written.{has_opaque, intern_pointer, opaque_type, stars_after, part_of, integer, bits_at, length_at, array_length, pointers, star_or, at_star, at_brace, comma_or, after_field, field, field_takes, before, struct_of, starred as with_starred, with_stars, interned, part, firm, Firm, no_type, result_stars, type_before}
 use Rattle.ir_print_law.specs.Definitions.{defined_structs}
 use Rattle.ir_print_law.specs.Shapes.{Shape, Integer, Float, Pointer, Array, Empty, Struct, Named, Opaque, HasShape, IsWritten, IsStruct, levels}
 use Rattle.ir_print_law.proofs.Forms.{Keeps, Same, Any, stepped, where_true, all, each}
@@ -114,18 +114,20 @@ module _ {m : Module} (r : Reading m) where
         },
       )
 
-  starred_keeps : (from most : ℕ) (p : WrittenType) (i : Input) → Keeps (Has r.Fore p.id) (λ w. Has r.Fore w.id) r.Back (with_starred from p) (λ w. IsBare m most p → IsShaped m most w) i
-  unfolding with_starred
-  starred_keeps from most p i w o h f =
+  -- the stars of a type that a round bracket may follow
+  result_stars_keep : (from most : ℕ) (p : WrittenType) (i : Input) → Keeps (Has r.Fore p.id) (λ w. Has r.Fore w.id) r.Back (result_stars from p) (λ w. IsBare m most p → IsShaped m most w) i
+  result_stars_keep from most p i w o h f =
       let x = after_keeps from p p.base i h.0 h.1 h.2 f in
-      let rule = h.3.2 in
-      let end = h.3.3 in
-      let same = rule.1 ∙ end.1 in (
-        subst (λ (y : WrittenType). Has r.Fore y.id o) end.0 (subst (Has r.Fore h.0.1) same x.0),
+      let end = h.3 in (
+        subst (λ (y : WrittenType). Has r.Fore y.id o) end.0 (subst (Has r.Fore h.0.1) end.1 x.0),
         λ b.
-            let c = x.1 (subst r.Back (sym same) b) in
+            let c = x.1 (subst r.Back (sym end.1) b) in
             (c.0, λ bare. subst (IsShaped m most) end.0 (starred_type most p h.0 bare c.1)),
       )
+
+  starred_keeps : (from most : ℕ) (p : WrittenType) (i : Input) → Keeps (Has r.Fore p.id) (λ w. Has r.Fore w.id) r.Back (with_starred from p) (λ w. IsBare m most p → IsShaped m most w) i
+  unfolding with_starred
+  starred_keeps from most p i w o h f = result_stars_keep from most p i w o (h.0, h.1, h.2, (h.3.3.0, h.3.2.1 ∙ h.3.3.1)) f
 
   -- ---- types before their stars
 
@@ -401,4 +403,12 @@ module _ {m : Module} where
   part_keeps r (suc room) i p o h f =
       let a = base_keeps r room (firm room) (λ q. part_keeps q room) (kind i.cursor) i h.0 h.1 h.2 f in
       let b = starred_keeps r (start i.cursor) (suc room) h.0 h.1 p o h.3 a.0 in
+      (b.0, λ back. let c = b.1 back in let d = a.1 c.0 in (d.0, c.1 d.1))
+
+  -- so it is before the types of a function's parameters
+  pub type_before_keeps : (r : Reading m) (i : Input) → Keeps r.Fore (λ w. Has r.Fore w.id) r.Back type_before (IsShaped m 64) i
+  unfolding type_before
+  type_before_keeps r i p o h f =
+      let a = base_keeps r 63 (firm 63) (λ q. part_keeps q 63) (kind i.cursor) i h.0 h.1 h.2 f in
+      let b = result_stars_keep r (start i.cursor) 64 h.0 h.1 p o h.3 a.0 in
       (b.0, λ back. let c = b.1 back in let d = a.1 c.0 in (d.0, c.1 d.1))

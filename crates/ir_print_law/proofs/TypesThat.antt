@@ -9,7 +9,7 @@ use Rattle.ir_tokens.specs.declared.token.Kind.TheVariants as k
 use Rattle.ir_forms.specs.Cursor.{sees, start}
 use Rattle.ir_forms.specs.declared.input.Input.{Input}
 use Rattle.ir_forms.specs.declared.written.WrittenType.{WrittenType}
-use Rattle.ir_forms.specs.Written.{firm, struct_body, type_within, type_that, any_type, scalar_within, scalar, integer_scalar, float_scalar, is_float, is_float_word, passed_type, held_type, pointer_type, is_scalar, is_passed, is_held, pointer_again, starred_again, opaque_or, opaque_type}
+use Rattle.ir_forms.specs.Written.{firm, struct_body, type_within, type_that, any_type, scalar_within, scalar, integer_scalar, float_scalar, is_float, is_float_word, passed_type, held_type, pointer_type, is_scalar, is_passed, is_held, pointer_again, starred_again, opaque_or, opaque_type, result_by, result_type}
 use Rattle.ir_print_law.specs.Shapes.{Shape, IsStruct, Integer, Float, Pointer, Array, Empty, Struct, Named, Opaque, is_struct_shape}
 use Rattle.ir_print_law.specs.Parts.{IsType, IsScalar, IsFloat, IsNoFloat, IsPointer, IsPlaceType}
 use Rattle.ir_print_law.specs.Printable.{IsPassed}
@@ -19,7 +19,7 @@ use Rattle.ir_print_law.proofs.Looks.{IsTypeOf, IsShaped, bits_are, scalar_is, p
 use Rattle.ir_print_law.proofs.Passes.{again_passes, skip_passes}
 use Rattle.ir_print_law.proofs.Reading.{Reading}
 use Rattle.ir_print_law.proofs.Tokens.{Has, having, pointer_goes}
-use Rattle.ir_print_law.proofs.TypesRead.{part_keeps, struct_keeps, opaque_keeps}
+use Rattle.ir_print_law.proofs.TypesRead.{part_keeps, type_before_keeps, struct_keeps, opaque_keeps}
 
 -- a type that is allowed somewhere
 abbrev pub IsFit : Module → (WrittenType → Bool) → WrittenType → Type 0
@@ -103,6 +103,23 @@ module _ {m : Module} (r : Reading m) where
             let is = ap is_float_word (word_told m.types m.struct_names c.1.0.0 h.0.id c.1.0.1.has_shape ∙ sym (bits_are m 64 h.0 c.1.0.0 c.1.0.1)) ∙ t.2.0 in
             (c.0, subst (λ (y : WrittenType). IsFit m is_scalar y × IsFloat m y.id) t.3.0 (c.1, is)),
       )
+
+  -- the type of a call's result
+  result_by_keeps : (wide : Bool) (i : Input) → Keeps r.Fore (Same r.Fore) r.Back (result_by wide) (IsFit m is_scalar) i
+  result_by_keeps false i = scalar_keeps i
+  result_by_keeps true i = λ w o h f.
+      let x = type_before_keeps r i h.0 h.1 h.2 f in
+      let t = h.3 in
+      let same = t.2.1 ∙ t.3.1 in (
+        subst r.Fore same x.0.0,
+        λ b.
+            let c = x.1 (subst r.Back (sym same) b) in
+            (c.0, subst (IsFit m is_scalar) t.3.0 (c.1, t.2.0)),
+      )
+
+  pub result_type_keeps : (i : Input) → Keeps r.Fore (Same r.Fore) r.Back result_type (IsFit m is_scalar) i
+  unfolding result_type
+  result_type_keeps i = result_by_keeps i.wide i
 
   pub passed_keeps : (i : Input) → Keeps r.Fore (Same r.Fore) r.Back passed_type (IsFit m is_passed) i
   unfolding passed_type

@@ -13,7 +13,7 @@ use Rattle.ir_tokens.specs.Tokens.{lexed_of}
 use Rattle.ir_text.specs.ItemsOfText.{whole, items}
 use Rattle.ir_text.specs.Read.{IsTextIn, module_in, start_in}
 use Rattle.ir_print.specs.Items.{struct_line, global_line, declare_line, function_text, text_of}
-use Rattle.ir_print_law.specs.Definitions.{AreNew, defined_globals, functions_of}
+use Rattle.ir_print_law.specs.Definitions.{AreNew, defined_globals, declared_functions, defined_functions, functions_of}
 use Rattle.ir_print_law.specs.Printable.{IsPrintable, IsSymbol}
 use Rattle.ir_print_law.proofs.Tables.{begins_itself}
 use Rattle.ir_print_law.specs.PartsAgain.{AreAlike}
@@ -37,6 +37,11 @@ new_apart : (seen xs ys : List Text) (k : Text) → AreNew seen (xs ++ ys) → I
 new_apart seen [] ys k h is there = is
 new_apart seen (x ∷ xs) ys k h (inl e) there = new_seen (seen ++ x ∷ []) (xs ++ ys) k h.1 (subst (λ (y : Text). IsIn y (seen ++ x ∷ [])) (sym e) (last_in x seen)) (in_second k xs ys there)
 new_apart seen (x ∷ xs) ys k h (inr is) there = new_apart (seen ++ x ∷ []) xs ys k h.1 is there
+
+-- names are new after those that come before them, too
+new_later : (seen xs ys : List Text) → AreNew seen (xs ++ ys) → (front : List Text) × AreNew front ys
+new_later seen [] ys h = (seen, h)
+new_later seen (x ∷ xs) ys h = new_later (seen ++ x ∷ []) xs ys h.1
 
 no_more : (n most : ℕ) → n ≤ most → 0 + n ≤ most
 no_more n most le = omega (arith, le)
@@ -62,11 +67,13 @@ prints_again m is fits =
     let long = structs_long m m.structs in
     let own = all_first (IsSymbol m.wide) (defined_globals m) (functions_of m) is.symbols.0 in
     let others = all_second (IsSymbol m.wide) (defined_globals m) (functions_of m) is.symbols.0 in
+    let apart = new_later [] (defined_globals m) (functions_of m) is.symbols.1 in
     let h = structs_go m is (nobody_named m is) m.globals m.declares m.functions m.structs far_start (start_in m.wide (text_of m) (lexed_of (text_of m))) [] refl past_end.1 past_end.0 is.structs is.struct_names.0 is.struct_names.1
     (omega (arith, fits, size, long)) refl
     (λ names ts j gap blanks past out ready_j.
     globals_go m is (nobody_named m is) m.declares m.functions m.globals (record far_start { structs = names; struct_types = ts }) j gap blanks past past_end.0 is.globals is.declares is.functions own others is.symbols.1
-    (λ name g. absurd g) refl (λ name there g. new_apart [] (defined_globals m) (functions_of m) name is.symbols.1 g there) (no_more (length m.globals) 4096 is.few_globals) (no_more (length m.declares) 65535 is.few_declares) (no_more (length m.functions) 65535 is.few_functions) out ready_j)
+    (λ name g. absurd g) refl (λ name there g. new_apart [] (defined_globals m) (functions_of m) name is.symbols.1 g there)
+    (λ name there d. new_apart apart.0 (declared_functions m) (defined_functions m) name apart.1 d there) (no_more (length m.globals) 4096 is.few_globals) (no_more (length m.declares) 65535 is.few_declares) (no_more (length m.functions) 65535 is.few_functions) out ready_j)
     (subst (λ (t : Text). Ready (known m nobody (nobody_named m is) far_start) 0 (start_in m.wide (text_of m) (lexed_of (text_of m))) t) parts ready) in
     let o = h.1 in
     let now = h.2 in
@@ -75,7 +82,7 @@ prints_again m is fits =
     let counted = h.9.holds.3 in
     let n = module_in m.wide o in
     let later : IsModuleLater o n = record { types = begins_itself o.types; structs = begins_itself o.struct_names.names; symbols = begins_itself o.symbols.names } in
-    let fault = no_fault m now o h.9.holds w.more_structs w.more_globals w.more_functions in
+    let fault = no_fault m now o h.9.holds h.9.forms w.more_structs w.more_globals w.more_functions in
     let again : IsAgain m n = record {
       structs = subst (λ (l : List StructType). AreAlike (IsStructAgain m n) m.structs l) (sym (counted.structs_are ∙ w.more_struct_types)) (h.13 n later);
       globals = subst (λ (l : List Global). AreAlike (IsGlobalAgain m n) m.globals l) (sym (counted.globals_are ∙ w.more_items)) (h.14 n later);

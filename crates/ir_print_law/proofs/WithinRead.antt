@@ -16,14 +16,14 @@ use Rattle.ir_print_law.specs.ModuleNames.{HasModuleNames}
 use Rattle.ir_print_law.specs.Parts.{IsVoid}
 use Rattle.ir_print_law.specs.PartsWithin.{AreSlotsBelow, HasType, HasSymbol, HasValue}
 use Rattle.ir_print_law.specs.Printable.{IsPassed, IsParameter, IsAnyType, IsStructType, IsGlobal, IsDeclare, IsBlock, IsPrintable}
-use Rattle.ir_print_law.specs.Definitions.{used_symbols}
+use Rattle.ir_print_law.specs.Definitions.{IsUsed}
 use Rattle.ir_print_law.specs.Within.{IsParameterWithin, IsBlockWithin, IsFunctionWithin, IsStructWithin, IsGlobalWithin, IsDeclareWithin, IsWithin}
 use Rattle.ir_print_law.proofs.DefinedWithin.{all_at, both, defined_within}
 use Rattle.ir_print_law.proofs.FunctionNames.{function_names}
 use Rattle.ir_print_law.proofs.FunctionsRead.{function_parts}
 use Rattle.ir_print_law.proofs.ModuleRead.{FunctionKeeps, read_so, read_is_printable, read_has_names}
 use Rattle.ir_print_law.proofs.OpsWithin.{blocks_within}
-use Rattle.ir_print_law.proofs.PartsWithin.{wide_module, wide, globals_have, declares_have, functions_have, globals_stay, functions_stay, void_within}
+use Rattle.ir_print_law.proofs.PartsWithin.{wide_module, wide, globals_have, declares_have, functions_have, globals_stay, declared_stay, functions_stay, void_within}
 use Rattle.ir_print_law.proofs.Shown.{shape_within}
 use Rattle.ir_print_law.proofs.Slots.{slots_there}
 use Rattle.ir_print_law.proofs.Outside.{Outside}
@@ -34,9 +34,10 @@ use Rattle.ir_print_law.proofs.Uses.{local_right}
 -- ---- a module with more global names
 
 module _ {m : Module} (own : HasModuleNames m) (more : List Text) where
-  uses_stay : (is_call : Bool) → used_symbols m is_call ≡ used_symbols (wide_module m more) is_call
-  uses_stay true = sym (functions_stay m own more)
-  uses_stay false = sym (globals_stay m own more)
+  uses_stay : (is_call : Bool) (name : Text) → IsUsed m is_call name → IsUsed (wide_module m more) is_call name
+  uses_stay true name is = subst (λ (l : List Text). IsIn name l) (sym (functions_stay m own more)) is
+  uses_stay false name (inl is) = inl (subst (λ (l : List Text). IsIn name l) (sym (globals_stay m own more)) is)
+  uses_stay false name (inr h) = inr (h.0, subst (λ (l : List Text). IsIn name l) (sym (declared_stay m own more)) h.1, h.2)
 
   -- what is known of a state of the module is known of it in the one with more names
   abbrev wide_reading : Reading m → Reading (wide_module m more)
@@ -58,7 +59,9 @@ module _ {m : Module} (own : HasModuleNames m) (more : List Text) where
     struct_is = r.struct_is;
     on_symbol = r.on_symbol;
     from_symbol = r.from_symbol;
-    symbol_is = λ i is_call back. subst (λ (l : List Text). IsIn (spelled i.cursor) l) (uses_stay is_call) (r.symbol_is i is_call back);
+    symbol_is = λ i is_call back. uses_stay is_call (spelled i.cursor) (r.symbol_is i is_call back);
+    on_lost = r.on_lost;
+    from_lost = r.from_lost;
   }
 
   abbrev wide_outside : Outside m → Outside (wide_module m more)

@@ -1,9 +1,10 @@
 -- What a module and its functions define, in text order, by names and by keys of local names.
-use Rattle.std.specs.Prelude.{◌≡◌, ℕ, ◌+◌, Bool, true, false, List, [], ◌∷◌, ◌++◌, drop, map, Option, Some, None, ◌⊎◌}
+use Rattle.std.specs.Prelude.{◌≡◌, ℕ, ◌+◌, Bool, true, false, List, [], ◌∷◌, ◌++◌, drop, map, Option, Some, None, is_none, ◌⊎◌}
 use Rattle.std.specs.List.{flat_map}
 use Rattle.std.specs.Fmt.{decimal}
 use Rattle.lemmas.specs.Lists.{IsIn}
 use Rattle.ir_ast.specs.LocalKeys.{key_of_name}
+use Rattle.ir_ast.specs.RuntimeNames.{runtime_of}
 use Rattle.ir_ast.specs.declared.block.Block.{Block}
 use Rattle.ir_ast.specs.declared.choices.Phi.{Phi}
 use Rattle.ir_ast.specs.declared.function.Function.{Function}
@@ -106,7 +107,8 @@ used_keys f wants.Value = value_keys f
 used_keys f wants.Block = label_keys f
 used_keys f wants.Target = target_keys f
 
--- which global names may be called, and which may be operands
-abbrev pub used_symbols : Module → (is_call : Bool) → List Text
-used_symbols m true = functions_of m
-used_symbols m false = defined_globals m
+-- A global name may be called or be an operand: one of a function is called. One of a global is an operand, and where the wide forms
+-- may stand one of something outside: it is declared, and is no function of the runtime.
+abbrev pub IsUsed : Module → (is_call : Bool) → (name : Text) → Type 0
+IsUsed m true name = IsIn name (functions_of m)
+IsUsed m false name = IsIn name (defined_globals m) ⊎ ((m.wide ≡ true) × IsIn name (declared_functions m) × (is_none (runtime_of name) ≡ true))

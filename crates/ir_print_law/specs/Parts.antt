@@ -15,7 +15,7 @@ use Rattle.ir_forms.specs.declared.written.Word.{Word}
 use Rattle.ir_print_law.specs.Fits.{FitsType}
 use Rattle.ir_print.specs.Names.{name_at}
 use Rattle.ir_print_law.specs.Shapes.{Shape, HasShape, IsWritten, levels, word_of_shape, is_scalar_shape, is_pointer_shape}
-use Rattle.ir_print_law.specs.Definitions.{value_keys, target_keys, defined_structs, defined_globals}
+use Rattle.ir_print_law.specs.Definitions.{IsUsed, value_keys, target_keys, defined_structs}
 
 -- ---- types
 
@@ -60,7 +60,7 @@ IsNoFloat m written = is_float_word (word_of_type (slice_get m.types written)) �
 
 -- a global that is an operand: it is no function, and no intrinsic has its name
 abbrev pub IsGlobalUse : Module → (symbol : ℕ) → Type 0
-IsGlobalUse m symbol = IsIn (name_at m.symbols symbol) (defined_globals m) × (is_intrinsic (name_at m.symbols symbol) ≡ false)
+IsGlobalUse m symbol = IsUsed m false (name_at m.symbols symbol) × (is_intrinsic (name_at m.symbols symbol) ≡ false)
 
 -- what an instruction of this function reads, at a type that is such a word
 abbrev pub IsOperand : Module → Function → Word → Operand → Type 0

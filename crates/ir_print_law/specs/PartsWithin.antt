@@ -34,6 +34,10 @@ HasFunction m symbol =
     × (((number : ℕ) × (slice_get m.sorts symbol ≡ Some (sort.Declared number)) × (number < length m.declares))
     ⊎ ((number : ℕ) × (slice_get m.sorts symbol ≡ Some (sort.Defined number)) × (number < length m.functions)))
 
+-- it is the name of a global, or of a function
+abbrev pub HasAddress : Module → (symbol : ℕ) → Type 0
+HasAddress m symbol = HasGlobal m symbol ⊎ HasFunction m symbol
+
 -- the table of local names has it
 abbrev pub HasLocal : Function → (value : ℕ) → Type 0
 HasLocal f value = value < length f.locals
@@ -73,8 +77,8 @@ HasResult f (Some value) = HasValue f value
 abbrev pub IsOperandWithin : Module → Function → Operand → Type 0
 IsOperandWithin m f (operand.Constant x) = Unit {0}
 IsOperandWithin m f (operand.Local value) = HasValue f value
-IsOperandWithin m f (operand.Global symbol) = HasGlobal m symbol
-IsOperandWithin m f (operand.CastGlobal from symbol to) = HasType m from × HasGlobal m symbol × HasType m to
+IsOperandWithin m f (operand.Global symbol) = HasAddress m symbol
+IsOperandWithin m f (operand.CastGlobal from symbol to) = HasType m from × HasAddress m symbol × HasType m to
 
 -- an operand with its type
 abbrev pub IsArgumentWithin : Module → Function → Argument → Type 0

@@ -11,7 +11,7 @@ use Rattle.ir_forms.specs.declared.fault.Fault.TheVariants as fault
 use Rattle.ir_forms.specs.declared.input.Input.{Input}
 use Rattle.ir_forms.specs.declared.uses.StructUse.{StructUse}
 use Rattle.ir_forms.specs.declared.uses.SymbolUse.{SymbolUse}
-use Rattle.ir_text.specs.Late.{is_right, is_struct}
+use Rattle.ir_text.specs.Late.{may_use, is_struct}
 
 -- a token of a text that begins at this place of a whole text, as one of that
 abbrev pub moved : (far : ℕ) → Token → Token
@@ -39,5 +39,5 @@ struct_in m name = option_and_then (slice_get m.struct_of) (place_of name m.stru
 
 -- Each name that was used so far means in the module what it is used for.
 pub record AreRight (m : Module) (o : Input) : Type 0 where
-  pub symbols : (name : Text) (u : SymbolUse) → IsIn u o.symbol_uses → place_of name o.symbols.names ≡ Some u.symbol → is_right u.is_call (symbol_in m name) ≡ true
+  pub symbols : (name : Text) (u : SymbolUse) → IsIn u o.symbol_uses → place_of name o.symbols.names ≡ Some u.symbol → may_use o.wide u.is_call (symbol_in m name) name ≡ true
   pub structs : (name : Text) (u : StructUse) → IsIn u o.struct_uses → place_of name o.struct_names.names ≡ Some u.name → is_struct (struct_in m name) ≡ true

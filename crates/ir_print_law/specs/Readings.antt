@@ -15,7 +15,7 @@ use Rattle.ir_forms.specs.declared.uses.Wanted.{Wanted}
 use Rattle.ir_forms.specs.declared.uses.Wanted.TheVariants as wants
 use Rattle.ir_forms.specs.declared.input.Input.{Input}
 use Rattle.ir_forms.specs.Input.{Form, advanced}
-use Rattle.ir_forms.specs.Names.{struct_name, callee, used_label, target, new_value, new_label, numbered_value, quoted, is_function, is_local, with_struct_use, with_symbol_use, with_local_use, with_value, with_label, with_number_taken}
+use Rattle.ir_forms.specs.Names.{struct_name, callee, used_label, target, new_value, new_label, numbered_value, quoted, may_be_operand, is_local, with_struct_use, with_symbol_use, with_local_use, with_value, with_label, with_number_taken}
 use Rattle.ir_forms.specs.Operand.{constant, operand}
 use Rattle.ir_ast.specs.declared.function.LocalSort.TheVariants.{Unknown}
 use Rattle.ir_forms.specs.Table.{mentioned}
@@ -63,11 +63,11 @@ LocalOperandsAreRead =
     → (operand word).says i (Local (number_of (name_at locals value) i.locals.names)) (with_local_use wants.Value i)
     × (local_key i.cursor ≡ name_at locals value) × Stands (with_local_use wants.Value i).cursor rest
 
--- a global name that names no function, and no intrinsic, is read as that name where it is an operand
+-- a global name that may be an operand, and names no intrinsic, is read as that name where it is one
 abbrev pub GlobalOperandsAreRead : Type 0
 GlobalOperandsAreRead =
     (word : Word) (name : Text) (i : Input) (gap rest : Text) → AreBytes name → is_intrinsic name ≡ false
-    → is_function (option_and_then (slice_get i.symbols.sorts) (place_of name i.symbols.names)) ≡ false → number_of name i.symbols.names < 2 ^ 32
+    → may_be_operand i.wide (option_and_then (slice_get i.symbols.sorts) (place_of name i.symbols.names)) name ≡ true → number_of name i.symbols.names < 2 ^ 32
     → AreBlanks gap → IsSeam rest → Stands i.cursor (gap ++ 64 ∷ (name_text blank.Kept name ++ rest))
     → (operand word).says i (Global (number_of name i.symbols.names)) (with_symbol_use false i)
     × (spelled i.cursor ≡ name) × Stands (with_symbol_use false i).cursor rest

@@ -11,7 +11,7 @@ use Rattle.ir_tokens.specs.declared.lexed.Lexed.{Lexed}
 use Rattle.ir_tokens.specs.declared.token.Kind.TheVariants as k
 use Rattle.ir_tokens.specs.declared.token.Token.{Token}
 use Rattle.ir_forms.specs.Cursor.{sees}
-use Rattle.ir_forms.specs.Names.{is_symbol, is_function}
+use Rattle.ir_forms.specs.Names.{is_symbol, is_function, is_declared}
 use Rattle.ir_forms.specs.Table.{empty}
 use Rattle.ir_forms.specs.declared.input.Input.{Input}
 use Rattle.ir_forms.specs.declared.table.Table.{Table}
@@ -37,9 +37,11 @@ IsClosed (t ∷ u ∷ ts) = IsClosed (u ∷ ts)
 abbrev pub sort_named : (name : Text) → Table SymbolSort → Option SymbolSort
 sort_named name t = option_and_then (slice_get t.sorts) (place_of name t.names)
 
--- each global name is that of a function, of a global or of nothing in both tables
+-- each global name is that of a function, of a global or of nothing in both tables, and of something that is only declared in both or in neither
 abbrev pub MeanAlike : Table SymbolSort → Table SymbolSort → Type 0
-MeanAlike a b = (name : Text) → (is_symbol (sort_named name a) ≡ is_symbol (sort_named name b)) × (is_function (sort_named name a) ≡ is_function (sort_named name b))
+MeanAlike a b =
+    (name : Text) → (is_symbol (sort_named name a) ≡ is_symbol (sort_named name b)) × (is_function (sort_named name a) ≡ is_function (sort_named name b))
+    × (is_declared (sort_named name a) ≡ is_declared (sort_named name b))
 
 -- the global names of a module, where neither this function nor one after it is defined so far
 abbrev pub symbols_before : Module → (func : ℕ) → Table SymbolSort

@@ -1,5 +1,6 @@
 -- Items: struct types, globals, declared and defined functions.
-use Rattle.std.specs.Prelude.{◌≤◌, ℕ, Bool, true, false, not, ◌&&◌, ◌==◌, nat_lt, List, [], ◌∷◌, ◌++◌, length, Option, Some, None, is_some}
+use Rattle.std.specs.Prelude.{◌≤◌, ℕ, Bool, true, false, not, ◌&&◌, ◌==◌, List, [], ◌∷◌, ◌++◌, length, Option, Some, None, is_some, codes}
+use Rattle.std.specs.Str.{bytes_eq}
 use Rattle.std.proofs.Common.{arith}
 use Rattle.grammar.specs.Grammar.{pure, step, checked, refuse, look, ◌>>=◌, ◌>>◌}
 use Rattle.grammar.specs.Takes.{Takes, TakesWhere, first_takes_where, look_takes, stays_takes}
@@ -20,9 +21,10 @@ use Rattle.ir_ast.specs.declared.items_of_module.Declare.{Declare}
 use Rattle.ir_forms.specs.declared.input.Input.{Input}
 use Rattle.ir_forms.specs.declared.written.Word.{Word}
 use Rattle.ir_forms.specs.declared.written.Word.TheVariants as word
-use Rattle.ir_forms.specs.Cursor.{kind, sees, spelled, left_out, bad_here, at_end}
-use Rattle.ir_forms.specs.Input.{Form, left, limit, unexpected, unread, skip, expect, IsKind, skip_takes}
+use Rattle.ir_forms.specs.Cursor.{kind, sees, spelling, spelled, left_out, bad_here, at_end}
+use Rattle.ir_forms.specs.Input.{Form, left, unexpected, unread, skip, expect, IsKind, skip_takes}
 use Rattle.ir_ast.specs.RuntimeNames.{runtime_of}
+use Rattle.ir_forms.specs.Outside.{lost_here}
 use Rattle.ir_forms.specs.Names.{new_struct, new_struct_takes, new_symbol, new_symbol_takes, quoted, first_missing}
 use Rattle.ir_forms.specs.Table.{empty}
 use Rattle.ir_forms.specs.Written.{any_type, held_type, passed_type, intern, no_parameters, struct_body, word_of, is_float_word}
@@ -35,17 +37,28 @@ use Rattle.ir_forms.specs.declared.decorating.Spot.TheVariants as spot
 use Rattle.ir_forms.specs.declared.decorating.Trail.TheVariants as trail
 use Rattle.ir_text.specs.Parameters.{declared_parameters, parameters}
 use Rattle.ir_text.specs.Blocks.{blocks}
+use Rattle.ir_text.specs.DataItems.{below, begins_data, begins_external, data_item}
 use Rattle.ir_text.specs.Lines.{source_name, source_name_takes, target_line, target_line_takes, group, group_takes, comdat, comdat_takes, metadata_line, metadata_line_takes}
 
 -- ---- struct types
 
+-- the word `opaque` is here, where the wide forms may stand
+unfoldable pub begins_opaque : Input → Bool
+begins_opaque i = i.wide && bytes_eq (spelling i.cursor) (codes "opaque")
+
+-- `opaque`, or another word: a struct type that is defined outside is one without fields, and its fields are lost
+abbrev pub opaque_by : Bool → Form ℕ
+opaque_by true = lost_here >> skip >> intern type.EmptyStruct
+opaque_by false = refuse unexpected
+
 -- the body of a struct type, by the token with which it begins
 abbrev pub body_by : Kind → Form ℕ
 body_by k.OpenBrace = struct_body
+body_by k.LeftOut = look begins_opaque opaque_by
 body_by k.Less = refuse (λ i. left_out i.cursor)
 body_by _ = refuse unexpected
 
--- `{ T, .. }`; packed structs are left out
+-- `{ T, .. }` or `opaque`; packed structs are left out
 unfoldable pub body : Form ℕ
 body = look (λ i. kind i.cursor) body_by
 
@@ -122,20 +135,44 @@ with_global_falls g i = omega arith
 abbrev pub add_global : Global → Form (Unit {0})
 add_global g = step (λ _. tt) (with_global g) (with_global_falls g)
 
--- what follows the name of a global
-abbrev pub global_afterwards : ℕ → Form (Unit {0})
-global_afterwards s = do
-  expect k.Equals
-  is_fixed ← is_constant
+-- the type and the first value of a global
+abbrev pub global_value : ℕ → Bool → Form (Unit {0})
+global_value s is_fixed = do
   w ← held_type
   x ← initial (word_of w)
   trailing trail.Global
   decorations spot.GlobalEnd
   add_global (record { symbol = s; is_constant = is_fixed; held = w.id; initial = x })
 
--- the count is below this bound
-abbrev pub below : ℕ → (Input → ℕ) → Form (Unit {0})
-below most count = checked (λ i. nat_lt (count i) most) limit
+-- data, or a global with its value
+abbrev pub value_by : ℕ → Bool → Bool → Form (Unit {0})
+value_by s is_fixed true = data_item s
+value_by s is_fixed false = global_value s is_fixed
+
+-- a global that is not outside, or data
+abbrev pub global_inside : ℕ → Form (Unit {0})
+global_inside s = do
+  is_fixed ← is_constant
+  look begins_data (value_by s is_fixed)
+
+-- a global outside, after its first word
+abbrev pub global_outside : ℕ → Form (Unit {0})
+global_outside s = do
+  lost_here
+  skip
+  is_constant
+  data_item s
+
+-- a global outside or not
+abbrev pub global_by : ℕ → Bool → Form (Unit {0})
+global_by s true = global_outside s
+global_by s false = global_inside s
+
+-- what follows the name of a global
+abbrev pub global_afterwards : ℕ → Form (Unit {0})
+global_afterwards s = do
+  expect k.Equals
+  look begins_external (global_by s)
 
 -- the name of a global that is defined here
 abbrev pub global_name : Form ℕ

@@ -1,10 +1,12 @@
 -- Names that are checked after the whole text, since each may be defined further on.
-use Rattle.std.specs.Prelude.{ℕ, Bool, true, false, not, ◌&&◌, Option, Some, None, slice_get, find, option_map, min}
+use Rattle.std.specs.Prelude.{ℕ, Bool, List, true, false, not, ◌&&◌, ◌||◌, Option, Some, None, slice_get, find, option_map, min}
+use Rattle.ir_ast.specs.Names.{name_at}
 use Rattle.ir_ast.specs.declared.items_of_module.SymbolSort.{SymbolSort}
 use Rattle.ir_ast.specs.declared.items_of_module.SymbolSort.TheVariants as symbol
 use Rattle.ir_forms.specs.declared.fault.Fault.{Fault}
 use Rattle.ir_forms.specs.declared.fault.Fault.TheVariants.{LeftOut, NotDefined}
 use Rattle.ir_forms.specs.declared.input.Input.{Input}
+use Rattle.ir_forms.specs.Names.{is_outside}
 use Rattle.ir_forms.specs.declared.uses.SymbolUse.{SymbolUse}
 use Rattle.ir_forms.specs.declared.uses.StructUse.{StructUse}
 
@@ -20,13 +22,17 @@ is_right is_call (Some (symbol.Defined f)) = is_call
 abbrev pub sort_of : Input → SymbolUse → Option SymbolSort
 sort_of i u = slice_get i.symbols.sorts u.symbol
 
--- a function is used as an operand
-abbrev pub is_function_operand : Input → SymbolUse → Bool
-is_function_operand i u = not u.is_call && is_right true (sort_of i u)
+-- a name that means this may be used so: what is outside is an operand, too, where the wide forms may stand
+abbrev pub may_use : (wide is_call : Bool) → Option SymbolSort → (name : List ℕ) → Bool
+may_use wide is_call sort name = (is_outside sort name && (wide && not is_call)) || is_right is_call sort
 
--- a global name is that of a function where it is called, and of a global elsewhere
+-- a global name is that of a function where it is called, and of a global or of something outside elsewhere
 abbrev pub is_right_symbol : Input → SymbolUse → Bool
-is_right_symbol i u = is_right u.is_call (sort_of i u)
+is_right_symbol i u = may_use i.wide u.is_call (sort_of i u) (name_at i.symbols.names u.symbol)
+
+-- a function is used as an operand, which is not outside
+abbrev pub is_function_operand : Input → SymbolUse → Bool
+is_function_operand i u = not u.is_call && (is_right true (sort_of i u) && not (is_right_symbol i u))
 
 -- the name is that of a struct type that was defined
 abbrev pub is_struct : Option (Option ℕ) → Bool

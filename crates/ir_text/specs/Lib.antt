@@ -2,6 +2,7 @@ pub mod Starts
 pub mod Lines
 pub mod Parameters
 pub mod Blocks
+pub mod DataItems
 pub mod ItemsOfText
 pub mod Late
 pub mod Read

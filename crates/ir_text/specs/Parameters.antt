@@ -13,7 +13,7 @@ use Rattle.ir_forms.specs.Names.{new_value, numbered_value, unnamed_value, next_
 use Rattle.ir_forms.specs.Written.{any_type, any_type_takes, passed_type, passed_type_takes}
 use Rattle.ir_forms.specs.Decorations.{decorations}
 use Rattle.ir_forms.specs.declared.decorating.Spot.TheVariants as spot
-use Rattle.ir_forms.specs.Lists.{separator, at_round}
+use Rattle.ir_forms.specs.Lists.{separator, at_round, ends_parameters, dots}
 
 -- ---- declared functions
 
@@ -43,9 +43,9 @@ pub declared_parameter_takes : Takes declared_parameter
 unfolding declared_parameter
 declared_parameter_takes = first_takes any_type type_of_parameter any_type_takes
 
--- the types of the parameters of a declared function
+-- the types of the parameters of a declared function, before its dots if it has any
 unfoldable pub declared_parameters : Form (List ℕ)
-declared_parameters = many at_round declared_parameter declared_parameter_takes
+declared_parameters = many ends_parameters declared_parameter declared_parameter_takes >>= λ types. dots >> pure types
 
 -- ---- defined functions
 

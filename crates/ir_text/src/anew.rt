@@ -138,6 +138,7 @@ fn start_with<'x>(alloc: Global, tables: Tables, bytes: &'x [u8], lexed: &'x Lex
         values: 0,
         unnamed: 0,
         missing: None,
+        lost: None,
         structs: Items::new(alloc),
         globals: Items::new(alloc),
         declares: Items::new(alloc),

@@ -14,7 +14,7 @@ const BLOCK_LIMIT: u32 = 65535;
 
 /// The label of a block, or its number among the names, which may be left out.
 #[tactic(auto, unfolding(crate::specs::Blocks::block_label))]
-fn block_label(alloc: Global, input: &mut Input<'_>, number: BlockId) -> Result<ValueId, Fault>
+pub fn block_label(alloc: Global, input: &mut Input<'_>, number: BlockId) -> Result<ValueId, Fault>
     ensures outcome { Reads ((form.block_label number).read input.old) result input.new }
     ensures within { IfOk result (λ _. number < 65535) }
 {

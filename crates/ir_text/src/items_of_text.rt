@@ -3,11 +3,13 @@ ghost use Rattle.std.specs.Prelude.{◌≡◌, Ok, IfOk};
 ghost use Rattle.ir_ast.specs.RuntimeNames.{runtime_of};
 ghost use Rattle.ir_forms.specs.Cursor.{spelled};
 ghost use Rattle.ir_forms.specs.Input.{Reads};
+ghost use Rattle.grammar.specs.Grammar.{look};
 ghost use Rattle.ir_text.specs.ItemsOfText as form;
 
 use crate::blocks::all_blocks;
+use crate::data_items::{begins_data, begins_external, data_item};
 use crate::lines::{comdat, group, metadata_line, source_name, target_line};
-use crate::parameters::{DeclaredParameters, DefinedParameters};
+use crate::parameters::{DefinedParameters, declared_parameters};
 use crate::starts::{begins_unread_item, is_external};
 use ir_ast as ast;
 use ir_ast::{
@@ -38,13 +40,34 @@ fn struct_type(alloc: Global, input: &mut Input<'_>) -> Result<(), Fault>
     Ok(())
 }
 
-/// The fields of a struct in their braces; packed structs are left out.
+/// Whether the word `opaque` is here, where the wide forms may stand.
+#[tactic(auto, unfolding(crate::specs::ItemsOfText::begins_opaque))]
+fn begins_opaque(input: &Input<'_>) -> bool
+    ensures { result ≡ form.begins_opaque input.now }
+{
+    input.wide && input.cursor.spelling() == b"opaque".as_slice()
+}
+
+/// A struct type that is defined outside, which is one without fields.
+fn opaque_body(input: &mut Input<'_>) -> Result<TypeId, Fault>
+    ensures { Reads ((look form.begins_opaque form.opaque_by).read input.old) result input.new }
+{
+    if !begins_opaque(input) {
+        return Err(input.refuse(false));
+    }
+    input.lose();
+    input.skip();
+    Ok(input.intern(IrType::EmptyStruct)?)
+}
+
+/// The fields of a struct in their braces, or `opaque`; packed structs are left out.
 #[tactic(auto, unfolding(crate::specs::ItemsOfText::body))]
 fn body(alloc: Global, input: &mut Input<'_>) -> Result<TypeId, Fault>
     ensures { Reads (form.body.read input.old) result input.new }
 {
     match input.kind() {
         Kind::OpenBrace => input.struct_body(alloc),
+        Kind::LeftOut => opaque_body(input),
         Kind::Less => Err(input.left_out()),
         _ => Err(input.refuse(false)),
     }
@@ -113,12 +136,15 @@ fn is_constant(alloc: Global, input: &mut Input<'_>) -> Result<bool, Fault>
     }
 }
 
-/// What follows the name of a global.
-fn global_afterwards(alloc: Global, input: &mut Input<'_>, symbol: SymbolId) -> Result<(), Fault>
-    ensures { Reads ((form.global_afterwards symbol).read input.old) result input.new }
+/// The type and the first value of a global.
+fn global_value(
+    alloc: Global,
+    input: &mut Input<'_>,
+    symbol: SymbolId,
+    is_constant: bool,
+) -> Result<(), Fault>
+    ensures { Reads ((form.global_value symbol is_constant).read input.old) result input.new }
 {
-    input.expect(Kind::Equals)?;
-    let is_constant = is_constant(alloc, input)?;
     let written = input.held_type(alloc)?;
     let initial = initial(input, word_of(&written))?;
     trailing(alloc, input, Trail::Global)?;
@@ -130,6 +156,24 @@ fn global_afterwards(alloc: Global, input: &mut Input<'_>, symbol: SymbolId) -> 
         initial,
     })?;
     Ok(())
+}
+
+/// What follows the name of a global.
+fn global_afterwards(alloc: Global, input: &mut Input<'_>, symbol: SymbolId) -> Result<(), Fault>
+    ensures { Reads ((form.global_afterwards symbol).read input.old) result input.new }
+{
+    input.expect(Kind::Equals)?;
+    if begins_external(input) {
+        input.lose();
+        input.skip();
+        is_constant(alloc, input)?;
+        return data_item(alloc, input, symbol);
+    }
+    let is_constant = is_constant(alloc, input)?;
+    if begins_data(input) {
+        return data_item(alloc, input, symbol);
+    }
+    global_value(alloc, input, symbol, is_constant)
 }
 
 /// `@g = global T c`
@@ -210,7 +254,6 @@ fn runtime_here(alloc: Global, input: &Input<'_>) -> Result<Option<Runtime>, All
 }
 
 /// What follows the result of a declared function.
-#[tactic(auto, unfolding(crate::specs::Parameters::declared_parameters))]
 fn declare_after(
     alloc: Global,
     input: &mut Input<'_>,
@@ -222,7 +265,7 @@ fn declare_after(
 {
     let symbol = function_name(alloc, input, SymbolSort::Declared(number))?;
     input.expect(Kind::OpenRound)?;
-    let parameters = many::<DeclaredParameters>(alloc, input)?;
+    let parameters = declared_parameters(alloc, input)?;
     input.expect(Kind::CloseRound)?;
     head_end(alloc, input, Spot::Declared)?;
     input.unnamed = 0;
@@ -279,7 +322,7 @@ fn declaration(alloc: Global, input: &mut Input<'_>) -> Result<(), Fault>
 
 /// The brace before a function's body.
 #[tactic(auto, unfolding(crate::specs::ItemsOfText::open_body))]
-fn open_body(input: &mut Input<'_>) -> Result<(), Fault>
+pub fn open_body(input: &mut Input<'_>) -> Result<(), Fault>
     ensures { Reads (form.open_body.read input.old) result input.new }
 {
     match input.kind() {

@@ -2,7 +2,7 @@
 ghost use Rattle.std.specs.Prelude.{◌≡◌};
 ghost use Rattle.ir_text.specs.Late as spec;
 
-use ir_ast::SymbolSort;
+use ir_ast::{Runtime, SymbolSort};
 use ir_forms::{Fault, Input, StructUse, SymbolUse};
 use pools::LayoutId;
 
@@ -17,20 +17,38 @@ fn is_right(is_call: bool, sort: Option<SymbolSort>) -> bool
     }
 }
 
-/// Whether the use is one of a function as an operand.
-fn is_function_operand(input: &Input<'_>, used: &SymbolUse) -> bool
-    ensures { result ≡ spec.is_function_operand input.now used.now }
+/// Whether a name that means this may be used so: what is outside is an operand, too, where the wide forms may stand.
+fn may_use(wide: bool, is_call: bool, sort: Option<SymbolSort>, name: &[u8]) -> bool
+    ensures { result ≡ spec.may_use wide is_call sort name.now }
 {
-    let sort = input.symbols.sort(used.symbol.number() as usize);
-    !used.is_call && is_right(true, sort)
+    match sort {
+        Some(SymbolSort::Declared(_)) => {
+            (Runtime::of(name).is_none() && wide && !is_call) || is_call
+        }
+        _ => is_right(is_call, sort),
+    }
 }
 
 /// Whether the use is one of a name of the right sort.
 fn is_right_symbol(input: &Input<'_>, used: &SymbolUse) -> bool
     ensures { result ≡ spec.is_right_symbol input.now used.now }
 {
+    let number = used.symbol.number() as usize;
+    let sort = input.symbols.sort(number);
+    may_use(
+        input.wide,
+        used.is_call,
+        sort,
+        input.symbols.names.name_at(number),
+    )
+}
+
+/// Whether the use is one of a function, which is not outside, as an operand.
+fn is_function_operand(input: &Input<'_>, used: &SymbolUse) -> bool
+    ensures { result ≡ spec.is_function_operand input.now used.now }
+{
     let sort = input.symbols.sort(used.symbol.number() as usize);
-    is_right(used.is_call, sort)
+    !used.is_call && is_right(true, sort) && !is_right_symbol(input, used)
 }
 
 fn is_struct(sort: Option<Option<LayoutId>>) -> bool

@@ -4,6 +4,7 @@
 
 mod anew;
 mod blocks;
+mod data_items;
 mod items_of_text;
 mod late;
 mod lines;
@@ -14,8 +15,9 @@ mod replaced;
 mod starts;
 
 pub use anew::{Replacement, read_function};
+pub use blocks::block_label;
 pub use ir_print::print;
-pub use items_of_text::{FunctionHead, body_after, defined_result, head_after};
+pub use items_of_text::{FunctionHead, body_after, defined_result, head_after, open_body};
 pub use read_fault::ReadFault;
-pub use reader::{read, read_in};
+pub use reader::{read, read_as, read_in};
 pub use replaced::{copy_first, name_of, replace};

@@ -4,8 +4,11 @@ ghost use Rattle.ir_forms.specs.Input.{Reads};
 ghost use Rattle.ir_text.specs.Parameters as form;
 
 use ir_ast::{Parameter, TypeId, ValueId};
-use ir_forms::{Fault, Input, Listed, Spot, WrittenType, decorations, separator};
+use ir_forms::{
+    Fault, Input, Listed, Spot, WrittenType, decorations, dots, ends_parameters, many, separator,
+};
 use ir_tokens::Kind;
+use items::Items;
 use std::alloc::Global;
 
 /// The name of a parameter that is declared.
@@ -40,25 +43,35 @@ fn declared_parameter(alloc: Global, input: &mut Input<'_>) -> Result<TypeId, Fa
 }
 
 /// The types of the parameters of a declared function.
-pub struct DeclaredParameters;
+struct DeclaredParameters;
 
 impl Listed for DeclaredParameters {
-    ghost use Rattle.ir_forms.specs.Lists.{at_round};
+    ghost use Rattle.ir_forms.specs.Lists.{ends_parameters};
     ghost use Rattle.ir_text.specs.Parameters.{declared_parameter};
 
     type Item = TypeId;
 
     ghost form = { declared_parameter.read };
 
-    ghost ends = { at_round };
+    ghost ends = { ends_parameters };
 
     fn ends(input: &Input<'_>) -> bool {
-        input.sees(Kind::CloseRound)
+        ends_parameters(input)
     }
 
     fn read(alloc: Global, input: &mut Input<'_>) -> Result<TypeId, Fault> {
         declared_parameter(alloc, input)
     }
+}
+
+/// The types of the parameters of a declared function, before its dots if it has any.
+#[tactic(auto, unfolding(crate::specs::Parameters::declared_parameters))]
+pub fn declared_parameters(alloc: Global, input: &mut Input<'_>) -> Result<Items<TypeId>, Fault>
+    ensures { Reads (form.declared_parameters.read input.old) result input.new }
+{
+    let types = many::<DeclaredParameters>(alloc, input)?;
+    dots(input);
+    Ok(types)
 }
 
 /// The type of a parameter.

@@ -10,7 +10,7 @@ use layout::{Program, Step};
 use number_tables::{put, row_or};
 use pools::LayoutId;
 use std::alloc::{AllocError, Global};
-use types::runtime_called;
+use types::{layout_meant, runtime_called};
 
 /// Where a pointer leads, as far as the text of its function tells.
 #[derive(Clone, Copy)]
@@ -296,15 +296,12 @@ impl<'a> Reading<'a> {
     }
 
     fn allocated(&mut self, layout: &Argument, value: ValueId) -> Result<(), AllocError> {
-        let Operand::Constant(Constant::Number(number)) = layout.operand else {
-            return Ok(());
-        };
-        match u32::try_from(number) {
-            Ok(number) if (number as usize) < self.module_read().structs.len() => {
+        match layout_meant(self.module_read(), &layout.operand) {
+            Some(layout) => {
                 let value = self.number(value);
-                self.evidence.add_given(value, LayoutId::new(number))
+                self.evidence.add_given(value, layout)
             }
-            _ => Ok(()),
+            None => Ok(()),
         }
     }
 

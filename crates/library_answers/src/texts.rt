@@ -14,6 +14,7 @@ pub(crate) fn texts_of_check<'a>(wide: bool, of_module: &'a [u8], cert: &'a [u8]
                 bytes: Some(of_module),
             },
             wide,
+            keeps: false,
         }),
         certificate: Some(File {
             path: "certificate",
@@ -52,6 +53,7 @@ pub(crate) fn texts_of_make<'a>(wide: bool, of_module: &'a [u8], shapes: &'a [u8
                 bytes: Some(of_module),
             },
             wide,
+            keeps: false,
         }),
         certificate: None,
         shapes: shapes_of(shapes),

@@ -1,5 +1,6 @@
 -- How calls are lowered.
-use Rattle.std.specs.Prelude.{Bool, List, [], ◌∷◌, ◌++◌, Option, Some, None, codes}
+use Rattle.std.specs.Prelude.{ℕ, Bool, List, [], ◌∷◌, ◌++◌, Option, Some, None, codes}
+use Rattle.std.specs.Fmt.{decimal}
 use Rattle.ir_ast.specs.IntegerFunctions.{taken_by}
 use Rattle.ir_ast.specs.declared.argument.Argument.{Argument}
 use Rattle.ir_ast.specs.declared.calls.Call.{Call}
@@ -7,6 +8,7 @@ use Rattle.ir_ast.specs.declared.instr.Instr.{Instr}
 use Rattle.ir_ast.specs.declared.integer_function.IntegersTaken.{IntegersTaken}
 use Rattle.ir_ast.specs.declared.integer_function.IntegersTaken.TheVariants.{Flagged}
 use Rattle.ir_ast.specs.declared.module.Module.{Module}
+use Rattle.ir_ast.specs.declared.outside.LayoutNumber.{LayoutNumber}
 use Rattle.ir_ast.specs.declared.runtime.Runtime.{Runtime}
 use Rattle.ir_ast.specs.declared.runtime.Runtime.TheVariants as runtime
 use Rattle.ir_tokens.specs.Bytes.{Text}
@@ -14,6 +16,7 @@ use Rattle.ir_print.specs.Names.{global_text}
 use Rattle.ir_print.specs.Operands.{argument_text}
 use Rattle.ir_print.specs.Types.{type_text}
 use Rattle.ir_print.specs.Instructions.{instruction_line, result_text}
+use Rattle.types.specs.LayoutNumbers.{layout_meant}
 use Rattle.types.specs.RuntimeCall.{runtime_called}
 use Rattle.lowering.specs.declared.words.Seat.{Seat}
 use Rattle.lowering.specs.Memory.{plain_line}
@@ -53,10 +56,31 @@ abbrev pub integers_text : (recorded : Bool) → Module → (locals : List Text)
 integers_text recorded m locals instr call Flagged (taken ∷ flag ∷ []) = flagged_line recorded m locals instr call taken
 integers_text recorded m locals instr call _ arguments = plain_line recorded m locals instr
 
+-- a call of dg_alloc for this layout, by its place in the table of layouts
+abbrev pub placed_line : Module → (locals : List Text) → Instr → Call → (number : Argument) → (layout : ℕ) → Text
+placed_line m locals instr call number layout =
+    codes "  " ++ result_text locals instr.result ++ codes "call " ++ type_text m call.returned ++ 32 ∷ global_text m call.callee
+    ++ 40 ∷ type_text m number.written ++ 32 ∷ decimal layout ++ codes ")\n"
+
+-- the same where a layout is meant
+abbrev pub placed_by : Module → (locals : List Text) → Instr → Call → (number : Argument) → (layout : Option ℕ) → Text
+placed_by m locals instr call number None = instruction_line m locals instr
+placed_by m locals instr call number (Some layout) = placed_line m locals instr call number layout
+
+-- by the arguments
+abbrev pub placed_text : Module → (locals : List Text) → Instr → Call → (arguments : List Argument) → Text
+placed_text m locals instr call (number ∷ []) = placed_by m locals instr call number (layout_meant m number.operand)
+placed_text m locals instr call arguments = instruction_line m locals instr
+
+-- a call of dg_alloc stands as it is where no numbers of layouts are listed: then they are the places in the table
+abbrev pub alloc_text : Module → (locals : List Text) → Instr → Call → (numbers : List LayoutNumber) → Text
+alloc_text m locals instr call [] = instruction_line m locals instr
+alloc_text m locals instr call (line ∷ lines) = placed_text m locals instr call call.arguments
+
 -- a call, by the function of the runtime that it calls; one of a function that is defined or only declared stands as it is
 abbrev pub call_by : (recorded : Bool) → Module → (locals : List Text) → Seat → Instr → Call → Option Runtime → Text
 call_by recorded m locals seat instr call None = plain_line recorded m locals instr
-call_by recorded m locals seat instr call (Some runtime.Alloc) = instruction_line m locals instr
+call_by recorded m locals seat instr call (Some runtime.Alloc) = alloc_text m locals instr call m.trusted.numbers
 call_by recorded m locals seat instr call (Some runtime.Safepoint) = instruction_line m locals instr
 call_by recorded m locals seat instr call (Some runtime.GcRoot) = plain_line recorded m locals instr ++ null_line m locals call.arguments
 call_by recorded m locals seat instr call (Some runtime.GcRead) = gcread_text recorded m locals seat instr call call.arguments

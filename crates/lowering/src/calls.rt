@@ -1,15 +1,24 @@
 //! How calls are lowered.
 ghost use Rattle.std.specs.Prelude.{◌≡◌, ◌++◌, ◌∷◌, [], OnOk};
 ghost use Rattle.lowering.specs.Calls as spec;
+ghost use Rattle.types.specs.LayoutNumbers.{layout_meant};
 
 use crate::memory::put_plain;
 use crate::scope::Scope;
 use crate::words::{Loading, Seat, put_load, put_local_step};
 use ir_ast::{Argument, Call, Instr, IntegersTaken, Runtime, integers_taken};
 use ir_print::{put_argument, put_instruction, put_result, put_type};
-use name_text::{Blank, put_global};
+use name_text::{Blank, put_global, put_number};
+use pools::LayoutId;
 use std::alloc::{AllocError, Global};
-use types::runtime_called;
+use types::{layout_meant, runtime_called};
+
+/// The argument of a call of dg_alloc, and the layout that it means.
+#[derive(Clone, Copy)]
+struct Placed {
+    number: Argument,
+    layout: LayoutId,
+}
 
 /// The line that stores null into the slot that is made a root.
 fn put_null(
@@ -138,6 +147,66 @@ fn put_integers(
     }
 }
 
+/// A call of dg_alloc for this layout, by its place in the table of layouts.
+fn put_placed(
+    alloc: Global,
+    out: &mut Vec<u8>,
+    scope: &Scope,
+    instr: &Instr,
+    call: &Call,
+    placed: Placed,
+) -> Result<(), AllocError>
+    ensures { OnOk result (out.new.items ≡ out.old.items ++ spec.placed_line scope.now.of_module.now scope.now.locals.now instr.now call.now placed.number placed.layout) }
+{
+    out.extend_from_slice(b"  ")?;
+    put_result(out, scope.locals, instr.result)?;
+    out.extend_from_slice(b"call ")?;
+    put_type(alloc, out, scope.of_module, call.returned)?;
+    out.push(b' ')?;
+    put_global(out, scope.of_module, call.callee, Blank::Kept)?;
+    out.push(b'(')?;
+    put_type(alloc, out, scope.of_module, placed.number.written)?;
+    out.push(b' ')?;
+    put_number(alloc, out, placed.layout.number() as u64)?;
+    out.extend_from_slice(b")\n")
+}
+
+/// The same where a layout is meant.
+fn put_placed_if(
+    alloc: Global,
+    out: &mut Vec<u8>,
+    scope: &Scope,
+    instr: &Instr,
+    call: &Call,
+    number: Argument,
+) -> Result<(), AllocError>
+    ensures { OnOk result (out.new.items ≡ out.old.items ++ spec.placed_by scope.now.of_module.now scope.now.locals.now instr.now call.now number (layout_meant scope.now.of_module.now number.operand)) }
+{
+    match layout_meant(scope.of_module, &number.operand) {
+        None => put_instruction(alloc, out, scope.of_module, scope.locals, instr),
+        Some(layout) => put_placed(alloc, out, scope, instr, call, Placed { number, layout }),
+    }
+}
+
+/// A call of dg_alloc, which stands as it is where no numbers of layouts are listed.
+fn put_alloc(
+    alloc: Global,
+    out: &mut Vec<u8>,
+    scope: &Scope,
+    instr: &Instr,
+    call: &Call,
+) -> Result<(), AllocError>
+    ensures { OnOk result (out.new.items ≡ out.old.items ++ spec.alloc_text scope.now.of_module.now scope.now.locals.now instr.now call.now scope.now.of_module.now.trusted.numbers) }
+{
+    match (
+        scope.of_module.trusted.numbers.as_slice(),
+        call.arguments.as_slice(),
+    ) {
+        ([_, ..], [number]) => put_placed_if(alloc, out, scope, instr, call, *number),
+        _ => put_instruction(alloc, out, scope.of_module, scope.locals, instr),
+    }
+}
+
 /// A call.
 pub(crate) fn put_call(
     alloc: Global,
@@ -151,7 +220,8 @@ pub(crate) fn put_call(
 {
     match runtime_called(scope.of_module, call.callee) {
         None | Some(Runtime::Float { .. }) => put_plain(alloc, out, scope, instr),
-        Some(Runtime::Alloc) | Some(Runtime::Safepoint) => {
+        Some(Runtime::Alloc) => put_alloc(alloc, out, scope, instr, call),
+        Some(Runtime::Safepoint) => {
             put_instruction(alloc, out, scope.of_module, scope.locals, instr)
         }
         Some(Runtime::GcRoot) => {

@@ -8,7 +8,7 @@ use Rattle.ir_ast.specs.declared.module.Module.{Module}
 use Rattle.shadow_stack.specs.Slots.{SlotTable}
 use Rattle.machine.specs.declared.value.Value.{Value}
 use Rattle.machine.specs.Kinds.{is_usable_number}
-use Rattle.machine.specs.Asks.{is_null_argument, are_outside_arguments}
+use Rattle.machine.specs.Asks.{is_address_argument, are_outside_arguments}
 
 -- arguments of another number than the types do not pass
 pub other_count : (m : Module) (f : Function) (slots : SlotTable) (registers : List Value) (types : List ℕ) (arguments : List Argument) → length types ≢ length arguments
@@ -17,7 +17,7 @@ other_count m f slots registers [] [] other = absurd (other refl)
 other_count m f slots registers [] (argument ∷ arguments) other = refl
 other_count m f slots registers (written ∷ types) [] other = refl
 other_count m f slots registers (written ∷ types) (argument ∷ arguments) other =
-    let taken = is_usable_number m f slots registers argument.written argument.operand || is_null_argument m argument in
+    let taken = is_usable_number m f slots registers argument.written argument.operand || is_address_argument m argument in
     ap (λ b. (argument.written == written) && (taken && b)) (other_count m f slots registers types arguments (λ e. other (ap (λ n. suc n) e)))
     ∙ ap (λ b. (argument.written == written) && b) (and-false taken)
     ∙ and-false (argument.written == written)

@@ -1,5 +1,5 @@
 -- What an instruction asks for.
-use Rattle.std.specs.Prelude.{ℕ, ◌==◌, nat_lt, Bool, true, false, ◌&&◌, ◌||◌, if◌then◌else◌, List, [], ◌∷◌, length, map, slice_get, Option, Some, None, is_some, not}
+use Rattle.std.specs.Prelude.{ℕ, ◌==◌, Bool, true, false, ◌&&◌, ◌||◌, if◌then◌else◌, List, [], ◌∷◌, map, slice_get, Option, Some, None, is_some, not}
 use Rattle.std.specs.List.{list_all}
 use Rattle.ir_ast.specs.declared.argument.Argument.{Argument}
 use Rattle.ir_ast.specs.declared.calls.Call.{Call}
@@ -28,16 +28,16 @@ use Rattle.ir_ast.specs.declared.numbers.NumberOp.{NumberOp}
 use Rattle.ir_ast.specs.declared.numbers.NumberOp.TheVariants as number
 use Rattle.ir_ast.specs.declared.op.Op.{Op}
 use Rattle.ir_ast.specs.declared.op.Op.TheVariants as op
-use Rattle.ir_ast.specs.declared.operand.Constant.TheVariants as constant
 use Rattle.ir_ast.specs.declared.operand.Operand.{Operand}
-use Rattle.ir_ast.specs.declared.operand.Operand.TheVariants as operand
 use Rattle.ir_ast.specs.declared.runtime.Runtime.{Runtime}
 use Rattle.ir_ast.specs.declared.runtime.Runtime.TheVariants as runtime
 use Rattle.pools.specs.Layouts.{kind_of_word}
 use Rattle.layout.specs.Layouts.{LaidOut}
 use Rattle.types.specs.Elements.{element_type}
+use Rattle.types.specs.LayoutNumbers.{layout_meant}
 use Rattle.types.specs.References.{pointee, is_opaque}
 use Rattle.types.specs.RuntimeCall.{runtime_called}
+use Rattle.outside_names.specs.Operands.{is_outside_operand}
 use Rattle.types.specs.ValueTypes.{target_of}
 use Rattle.shadow_stack.specs.Slots.{SlotTable, operand_slot, held_type, slot_layout}
 use Rattle.machine.specs.declared.value.Pointee.{Pointee}
@@ -279,15 +279,6 @@ gcwrite_action p f slots registers returned (v ∷ object ∷ place ∷ []) =
     (barrier_action p v.written (value_of p.of_module registers v.written v.operand) (address_at_place p.of_module f slots registers place.written place.operand))
 gcwrite_action p f slots registers returned arguments = Wrong
 
--- the layout that a number means
-abbrev pub layout_numbered : Module → (n : ℕ) → Option ℕ
-layout_numbered m n = if nat_lt n (length m.structs) && nat_lt n 4294967296 then Some n else None
-
--- the number of a layout is a constant of 32 bits
-abbrev pub layout_named : Module → Operand → Option ℕ
-layout_named m (operand.Constant (constant.Number n)) = layout_numbered m n
-layout_named m _ = None
-
 -- an alloc of a layout, if there is one
 abbrev pub alloc_of : Option ℕ → Action
 alloc_of None = Wrong
@@ -295,7 +286,7 @@ alloc_of (Some layout) = Alloc layout
 
 -- dg_alloc asks for a cell of the layout that its argument numbers
 abbrev pub alloc_action : Module → (returned : ℕ) → List Argument → Action
-alloc_action m returned (layout ∷ []) = only_if (are_alloc_types m returned (layout.written ∷ [])) (alloc_of (layout_named m layout.operand))
+alloc_action m returned (layout ∷ []) = only_if (are_alloc_types m returned (layout.written ∷ [])) (alloc_of (layout_meant m layout.operand))
 alloc_action m returned arguments = Wrong
 
 -- dg_safepoint asks whether a stage was posted
@@ -347,15 +338,15 @@ defined_action m f slots registers returned arguments (Some callee) =
 abbrev pub asked_outside : Option IrType → Action
 asked_outside t = if is_void t then Local else (if is_integer t then Foreign (bits_of t) else Wrong)
 
--- null, written at a pointer type
-abbrev pub is_null_argument : Module → Argument → Bool
-is_null_argument m argument = is_null_operand argument.operand && is_pointer_type (slice_get m.types argument.written)
+-- null or an address outside, written at a pointer type
+abbrev pub is_address_argument : Module → Argument → Bool
+is_address_argument m argument = (is_null_operand argument.operand || is_outside_operand m argument.operand) && is_pointer_type (slice_get m.types argument.written)
 
--- a function outside takes numbers or null, of its parameters' types
+-- a function outside takes numbers, null and addresses outside, of its parameters' types
 abbrev pub are_outside_arguments : Module → Function → SlotTable → List Value → List ℕ → List Argument → Bool
 are_outside_arguments m f slots registers [] [] = true
 are_outside_arguments m f slots registers (type ∷ types) (argument ∷ arguments) =
-    (argument.written == type) && ((is_usable_number m f slots registers argument.written argument.operand || is_null_argument m argument)
+    (argument.written == type) && ((is_usable_number m f slots registers argument.written argument.operand || is_address_argument m argument)
     && are_outside_arguments m f slots registers types arguments)
 are_outside_arguments m f slots registers _ _ = false
 

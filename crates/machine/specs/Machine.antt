@@ -24,6 +24,7 @@ use Rattle.ir_ast.specs.declared.runtime.Runtime.{Runtime}
 use Rattle.ir_ast.specs.declared.runtime.Runtime.TheVariants as runtime
 use Rattle.pools.specs.Layouts.{kind_of_word}
 use Rattle.layout.specs.Layouts.{LaidOut}
+use Rattle.types.specs.LayoutNumbers.{layout_meant}
 use Rattle.types.specs.RuntimeCall.{runtime_called}
 use Rattle.shadow_stack.specs.Slots.{SlotTable, slots_of, operand_slot}
 use Rattle.machine.specs.declared.value.Pointee.{Pointee}
@@ -40,7 +41,7 @@ use Rattle.machine.specs.IntegerFunctions.{function_value}
 use Rattle.machine.specs.Integers.{computed, resized, compares, compares_equal, truth}
 use Rattle.machine.specs.Elements.{element_offset, element_place, address_of, global_kind, read_value}
 use Rattle.machine.specs.Jumps.{put_register, phis_of, put_phis}
-use Rattle.machine.specs.Asks.{layout_named, number_called, op_action, end_action, edge_of, target_at}
+use Rattle.machine.specs.Asks.{number_called, op_action, end_action, edge_of, target_at}
 
 -- the frames of a thread, the running one first; a thread without a frame has ended
 pub record State : Type 0 where
@@ -170,7 +171,7 @@ alloc_value layout given = value.Unset
 -- the layout that a call of dg_alloc numbers
 abbrev pub layout_of_call : Module → List Argument → Option ℕ
 layout_of_call m [] = None
-layout_of_call m (argument ∷ arguments) = layout_named m argument.operand
+layout_of_call m (argument ∷ arguments) = layout_meant m argument.operand
 
 -- the slot that a call of gcroot names
 abbrev pub root_of_call : Module → Function → SlotTable → List Argument → Option ℕ

@@ -3,7 +3,7 @@ ghost use Rattle.std.specs.Prelude.{◌≡◌, IfOk, slice_get};
 ghost use Rattle.std.specs.Option.{option_copied};
 ghost use Rattle.types.specs.RuntimeCall.{runtime_called};
 ghost use Rattle.ir_ast.specs.IntegerFunctions.{widths_taken};
-ghost use Rattle.machine.specs.Asks.{are_gcroot_types, are_gcread_types, are_gcwrite_types, are_alloc_types, are_safepoint_types, are_of_widths, are_integer_types, written_types, declare_of, are_types_of, declared_with, is_root_place, gcroot_action, gcread_action, gcwrite_action, layout_numbered, layout_named, alloc_of, alloc_action, safepoint_action, integer_action, number_called, function_numbered, arguments_pass, defined_action, outside_action, action_of_call};
+ghost use Rattle.machine.specs.Asks.{are_gcroot_types, are_gcread_types, are_gcwrite_types, are_alloc_types, are_safepoint_types, are_of_widths, are_integer_types, written_types, declare_of, are_types_of, declared_with, is_root_place, gcroot_action, gcread_action, gcwrite_action, alloc_of, alloc_action, safepoint_action, integer_action, number_called, function_numbered, arguments_pass, defined_action, outside_action, action_of_call};
 ghost use Rattle.machine.specs.Kinds.{slot_at_place, address_at_place};
 ghost use Rattle.machine.specs.Machine.{alloc_value, layout_of_call, root_of_call, place_of_call, values_of, function_called};
 
@@ -18,13 +18,13 @@ use crate::memory::{barrier_action, read_action};
 use crate::operands::{address_at_place, is_usable, operand_value, slot_at_place, value_of};
 use crate::value::{Pointee, Value};
 use ir_ast::{
-    Argument, Call, Constant, Declare, FuncId, Function, IntegerFunction, IntegersTaken, Module,
-    Op, Operand, Parameter, Runtime, SymbolId, SymbolSort, TypeId, integers_taken,
+    Argument, Call, Declare, FuncId, Function, IntegerFunction, IntegersTaken, Module, Op,
+    Parameter, Runtime, SymbolId, SymbolSort, TypeId, integers_taken,
 };
 use pools::LayoutId;
 use shadow_stack::SlotId;
 use std::alloc::{AllocError, Global};
-use types::runtime_called;
+use types::{layout_meant, runtime_called};
 
 fn are_gcroot_types(of_module: &Module, returned: TypeId, parameters: &[TypeId]) -> bool
     ensures { result ≡ are_gcroot_types of_module.now returned parameters.now }
@@ -195,26 +195,6 @@ fn gcwrite_action(context: &FrameContext<'_>, returned: TypeId, arguments: &[Arg
     }
 }
 
-/// The layout that an operand numbers: a constant of 32 bits.
-pub fn layout_named(of_module: &Module, operand: &Operand) -> Option<LayoutId>
-    ensures { result ≡ layout_named of_module.now operand.now }
-{
-    match operand {
-        Operand::Constant(Constant::Number(number)) => layout_numbered(of_module, *number),
-        _ => None,
-    }
-}
-
-fn layout_numbered(of_module: &Module, number: u64) -> Option<LayoutId>
-    ensures { result ≡ layout_numbered of_module.now number }
-{
-    if number < of_module.structs.len() as u64 && number < 4_294_967_296 {
-        Some(LayoutId::new(number as u32))
-    } else {
-        None
-    }
-}
-
 fn alloc_of(layout: Option<LayoutId>) -> Action
     ensures { result ≡ alloc_of layout }
 {
@@ -230,7 +210,7 @@ fn alloc_action(of_module: &Module, returned: TypeId, arguments: &[Argument]) ->
     match arguments {
         [layout] => only_if(
             are_alloc_types(of_module, returned, &[layout.written]),
-            alloc_of(layout_named(of_module, &layout.operand)),
+            alloc_of(layout_meant(of_module, &layout.operand)),
         ),
         _ => Action::Wrong,
     }
@@ -494,7 +474,7 @@ pub fn layout_of_call(of_module: &Module, arguments: &[Argument]) -> Option<Layo
     ensures { result ≡ layout_of_call of_module.now arguments.now }
 {
     match arguments {
-        [argument, ..] => layout_named(of_module, &argument.operand),
+        [argument, ..] => layout_meant(of_module, &argument.operand),
         [] => None,
     }
 }

@@ -1,6 +1,6 @@
 //! Calls of functions outside: what they ask for, what they take, and what they give.
 ghost use Rattle.std.specs.Prelude.{◌≡◌, ◌||◌, slice_get};
-ghost use Rattle.machine.specs.Asks.{asked_outside, is_null_argument, are_outside_arguments};
+ghost use Rattle.machine.specs.Asks.{asked_outside, is_address_argument, are_outside_arguments};
 ghost use Rattle.machine.specs.Kinds.{is_usable_number};
 ghost use Rattle.machine.specs.Machine.{given_value};
 
@@ -11,6 +11,7 @@ use crate::kinds::{bits_at, is_integer, is_pointer_type, is_void};
 use crate::operands::{is_null_operand, is_usable_number};
 use crate::value::Value;
 use ir_ast::{Argument, Module, TypeId};
+use outside_names::is_outside_operand;
 
 /// What a function outside gives, by its type: nothing, or a number.
 pub fn asked_outside(of_module: &Module, returned: TypeId) -> Action
@@ -27,19 +28,20 @@ pub fn asked_outside(of_module: &Module, returned: TypeId) -> Action
     }
 }
 
-/// Whether an argument is null, written at a pointer type.
-fn is_null_argument(of_module: &Module, argument: &Argument) -> bool
-    ensures { result ≡ is_null_argument of_module.now argument.now }
+/// Whether an argument is null or an address outside, written at a pointer type.
+fn is_address_argument(of_module: &Module, argument: &Argument) -> bool
+    ensures { result ≡ is_address_argument of_module.now argument.now }
 {
-    is_null_operand(&argument.operand) && is_pointer_type(of_module, argument.written)
+    (is_null_operand(&argument.operand) || is_outside_operand(of_module, &argument.operand))
+        && is_pointer_type(of_module, argument.written)
 }
 
-/// Whether a function outside takes an argument: a number of its type, or null.
+/// Whether a function outside takes an argument: a number of its type, null, or an address outside.
 fn is_taken(context: &FrameContext<'_>, argument: &Argument) -> bool
-    ensures { let m = context.now.program.now.of_module in result ≡ (is_usable_number m context.now.function.now context.now.slots.now context.now.registers.now argument.now.written argument.now.operand || is_null_argument m argument.now) }
+    ensures { let m = context.now.program.now.of_module in result ≡ (is_usable_number m context.now.function.now context.now.slots.now context.now.registers.now argument.now.written argument.now.operand || is_address_argument m argument.now) }
 {
     is_usable_number(context, argument.written, &argument.operand)
-        || is_null_argument(context.of_module(), argument)
+        || is_address_argument(context.of_module(), argument)
 }
 
 /// Whether there is one argument for each of these types, written with it, that a function outside takes.

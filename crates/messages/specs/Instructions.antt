@@ -1,23 +1,20 @@
--- Where an instruction begins, as the reader reads up to there.
-use Rattle.std.specs.Prelude.{◌≡◌, ℕ, ◌+◌, Bool, true, false, ◌||◌, List, [], ◌∷◌, ◌++◌, length, take, drop, slice_get, Some, None}
+-- Where the instructions of a function begin, as the reader reads them.
+use Rattle.std.specs.Prelude.{◌≡◌, ℕ, ◌+◌, Bool, true, false, ◌||◌, List, length, map, drop, slice_get, Some, None}
+use Rattle.grammar.specs.Grammar.{◌>>◌}
 use Rattle.ir_tokens.specs.Bytes.{Text}
 use Rattle.ir_tokens.specs.declared.token.Kind.{Kind}
 use Rattle.ir_tokens.specs.declared.token.Kind.TheVariants as k
 use Rattle.ir_tokens.specs.declared.token.Token.{Token}
-use Rattle.ir_ast.specs.declared.block.Block.{Block}
-use Rattle.ir_ast.specs.declared.function.Function.{Function}
+use Rattle.ir_ast.specs.declared.items_of_module.SymbolSort.{SymbolSort}
+use Rattle.ir_ast.specs.declared.items_of_module.SymbolSort.TheVariants as symbol
+use Rattle.ir_ast.specs.declared.module.Module.{Module}
+use Rattle.ir_forms.specs.declared.table.Table.{Table}
 use Rattle.ir_forms.specs.declared.input.Input.{Input}
 use Rattle.ir_forms.specs.Ends.{ends_block}
-use Rattle.ir_forms.specs.Input.{start_of}
-use Rattle.ir_text.specs.Anew.{anew}
-
--- a token of this kind that no text has
-abbrev pub word : Kind → Token
-word kind = record { kind = kind; begins_line = true; start = 0; length = 0 }
-
--- these tokens, with `unreachable }` after them: the function ends there
-abbrev pub ended : List Token → List Token
-ended tokens = tokens ++ word k.Unreachable ∷ word k.CloseBrace ∷ []
+use Rattle.ir_forms.specs.Input.{Form, start_of}
+use Rattle.ir_text.specs.Anew.{named_head}
+use Rattle.ir_places.specs.declared.places.BlockPlaces.{BlockPlaces}
+use Rattle.ir_places.specs.Places.{body_places, place_in}
 
 -- an instruction of a body begins with this token: the name of its value, or its own word
 abbrev pub begins_inner : Kind → Bool
@@ -33,33 +30,50 @@ begins_inner _ = false
 abbrev pub begins : Kind → Bool
 begins kind = begins_inner kind || ends_block kind
 
--- a function has this block for its last, with this many phis and instructions before the end
-pub record StopsAt (f : Function) (block place : ℕ) : Type 0 where
-  pub last : Block
-  pub there : slice_get f.blocks block ≡ Some last
-  pub count : length f.blocks ≡ block + 1
-  pub instructions : length last.phis + length last.body ≡ place
+-- what a global name of the module stands for before a function of it is read alone: what is only declared, and no more
+abbrev pub sort_before : SymbolSort → SymbolSort
+sort_before symbol.Unknown = symbol.Unknown
+sort_before (symbol.Global g) = symbol.Unknown
+sort_before (symbol.Declared d) = symbol.Declared d
+sort_before (symbol.Defined f) = symbol.Unknown
 
--- so does the first of these functions
-pub record FirstStopsAt (functions : List Function) (block place : ℕ) : Type 0 where
-  pub function : Function
-  pub there : slice_get functions 0 ≡ Some function
-  pub stops : StopsAt function block place
+-- the same of each name
+abbrev pub sorts_before : List SymbolSort → List SymbolSort
+sorts_before sorts = map sort_before sorts
 
--- before these tokens of a function are read, where the wide forms may stand or not
-abbrev pub start_in : (wide : Bool) → (text : Text) → List Token → Input
-start_in wide text tokens = record (start_of (record { text = text; rest = tokens; bad = None; wide = wide })) { wide = wide }
+-- the global names of the module before a function of it is read alone
+abbrev pub names_before : Module → Table SymbolSort
+names_before m = record { names = m.symbols; sorts = sorts_before m.sorts }
 
--- these tokens of a function, ended after them, are read as the function of this name up to there
-pub record IsReadUpTo (wide : Bool) (text name : Text) (tokens : List Token) (block place : ℕ) : Type 0 where
+-- before these tokens of a function of the module are read alone
+abbrev pub start_in : Module → (text : Text) → List Token → Input
+start_in m text tokens = record (start_of (record { text = text; rest = tokens; bad = None; wide = m.wide })) { symbols = names_before m; wide = m.wide }
+
+-- the function of this name, with how many tokens are left before each of its instructions
+unfoldable pub function_places : (name : Text) → Form (List BlockPlaces)
+function_places name = named_head 0 name >> body_places
+
+-- These tokens begin with the function of this name, and before each of its instructions so many of them are left to the reader.
+pub record ArePlacesOf (m : Module) (text name : Text) (tokens : List Token) (places : List BlockPlaces) : Type 0 where
   pub after : Input
-  pub read : (anew 0 name).says (start_in wide text (ended tokens)) tt after
-  pub stops : FirstStopsAt after.functions block place
+  pub read : (function_places name).says (start_in m text tokens) places after
 
--- An instruction of the function of this name begins at this token: the function's tokens before it, ended there, are read as the function up to the instruction.
-pub record BeginsAt (wide : Bool) (text : Text) (tokens : List Token) (name : Text) (block place : ℕ) (token : Token) : Type 0 where
-  pub from : ℕ
-  pub at : ℕ
-  pub there : slice_get tokens at ≡ Some token
+-- The token with this number is the one before which as many tokens are left as before this instruction; it is one with which an instruction begins.
+pub record IsFirst (places : List BlockPlaces) (tokens : List Token) (block place at : ℕ) : Type 0 where
+  pub of_block : BlockPlaces
+  pub there : slice_get places block ≡ Some of_block
+  pub left : ℕ
+  pub counted : place_in of_block place ≡ Some left
+  pub all : at + left ≡ length tokens
+  pub token : Token
+  pub first : slice_get tokens at ≡ Some token
   pub begins_one : begins token.kind ≡ true
-  pub read : IsReadUpTo wide text name (drop from (take at tokens)) block place
+
+-- An instruction of the function of this name begins at this token: from some token on the function is read, and this is the first token of the instruction there.
+pub record BeginsAt (m : Module) (text : Text) (tokens : List Token) (name : Text) (block place : ℕ) (token : Token) : Type 0 where
+  pub from : ℕ
+  pub places : List BlockPlaces
+  pub read : ArePlacesOf m text name (drop from tokens) places
+  pub at : ℕ
+  pub begins_here : IsFirst places (drop from tokens) block place at
+  pub there : slice_get (drop from tokens) at ≡ Some token

@@ -1,15 +1,18 @@
-//! Where an instruction begins, as the reader reads up to there.
-ghost use Rattle.std.specs.Prelude.{◌≡◌, ◌+◌, ◌≤◌, true, length, take, drop, slice_get, Some, IfOk, IfSome, OnOk};
+//! Where the instructions of a function begin, as the reader reads them.
+ghost use Rattle.std.specs.Prelude.{◌≡◌, ◌+◌, ◌≤◌, true, length, drop, slice_get, Some, IfOk, IfSome};
 ghost use Rattle.ir_forms.specs.Input.{Reads};
-ghost use Rattle.ir_text.specs.Anew.{anew, ends, named_head};
+ghost use Rattle.ir_text.specs.Anew.{named_head};
 ghost use Rattle.messages.specs.Instructions as spec;
-ghost use Rattle.messages.specs.Instructions.{BeginsAt, IsReadUpTo, StopsAt};
+ghost use Rattle.messages.specs.Instructions.{ArePlacesOf, BeginsAt, IsFirst};
 
-use crate::guesses::{Source, make_guess};
-use ir_ast::{Block, FuncId, Function, Module};
-use ir_forms::{Cursor, Fault, Input};
-use ir_text::{FunctionHead, body_after, defined_result, head_after};
+use crate::guesses::{Start, guess_start};
+use copies::copy_names;
+use ir_ast::{FuncId, Module, SymbolSort};
+use ir_forms::{Cursor, Fault, Input, Table};
+use ir_places::{BlockPlaces, body_places};
+use ir_text::{FunctionHead, defined_result, head_after};
 use ir_tokens::{Kind, TEXT_LIMIT, Token};
+use items::Items;
 use std::alloc::{AllocError, Global};
 
 /// The numbers of an instruction, each from 0: of its function in the module, of its block there, and of it in the block.
@@ -20,40 +23,22 @@ pub struct Numbers {
     pub place: usize,
 }
 
-/// A token that no text has.
-fn word(kind: Kind) -> Token
-    ensures { result ≡ spec.word kind }
-{
-    Token {
-        kind,
-        begins_line: true,
-        start: 0,
-        length: 0,
-    }
+/// Where the instructions of a function begin, block by block.
+#[derive(Debug, Drop)]
+pub struct Places {
+    pub blocks: Items<BlockPlaces>,
 }
 
-/// These tokens, with `unreachable }` after them.
-fn ended(alloc: Global, tokens: &[Token]) -> Result<Vec<Token>, AllocError>
-    ensures { IfOk result (λ list. list.items ≡ spec.ended tokens.now) }
-{
-    let mut list = Vec::from_slice(alloc, tokens)?;
-    list.push(word(Kind::Unreachable))?;
-    list.push(word(Kind::CloseBrace))?;
-    Ok(list)
-}
-
-/// The end of the text.
-#[tactic(auto, unfolding(ir_text::specs::Anew::ends))]
-fn ends(input: &mut Input<'_>) -> Result<(), Fault>
-    ensures { Reads (ends.read input.old) result input.new }
-{
-    if !input.sees(Kind::End) {
-        return Err(input.refuse(false));
+impl Places {
+    /// The number of the first token of an instruction among these tokens, which end where those end that the function is the first of.
+    pub fn token_at(&self, tokens: &[Token], block: usize, place: usize) -> Option<usize>
+        ensures { IfSome result (λ at. IsFirst self.now.blocks tokens.now block place at) }
+    {
+        let left = self.blocks.get(block)?.get(place)?;
+        let at = tokens.len().checked_sub(left)?;
+        let token = tokens.get(at)?;
+        if begins(token.kind) { Some(at) } else { None }
     }
-    if input.cursor.is_bad() {
-        return Err(input.cursor.at_end());
-    }
-    Ok(())
 }
 
 /// The head of a function of this name.
@@ -73,76 +58,80 @@ fn named_head(alloc: Global, input: &mut Input<'_>, name: &[u8]) -> Result<Funct
     head_after(alloc, input, FuncId::new(0), returned)
 }
 
-/// Tokens that are one function of this name.
-#[tactic(auto, unfolding(ir_text::specs::Anew::anew))]
-fn function_named(alloc: Global, input: &mut Input<'_>, name: &[u8]) -> Result<(), Fault>
-    ensures { Reads ((anew 0 name.now).read input.old) result input.new }
+/// A function of this name, with its places.
+#[tactic(auto, unfolding(crate::specs::Instructions::function_places))]
+fn function_places(
+    alloc: Global,
+    input: &mut Input<'_>,
+    name: &[u8],
+) -> Result<Items<BlockPlaces>, Fault>
+    ensures { Reads ((spec.function_places name.now).read input.old) result input.new }
 {
     let head = named_head(alloc, input, name)?;
-    body_after(alloc, input, head)?;
-    ends(input)
+    drop(head);
+    body_places(alloc, input)
 }
 
-/// Whether a function has this block for its last, with this many phis and instructions before the end.
-fn stops_at(function: &Function, block: usize, place: usize) -> bool
-    ensures { result ≡ true → StopsAt function.now block place }
+/// What a global name of a module stands for before a function of it is read alone.
+fn sort_before(sort: SymbolSort) -> SymbolSort
+    ensures { result ≡ spec.sort_before sort }
 {
-    let blocks = function.blocks.as_slice();
-    match blocks.get(block) {
-        Some(last) => blocks.len() == block + 1 && has_before_end(last, place),
-        None => false,
+    match sort {
+        SymbolSort::Declared(_) => sort,
+        _ => SymbolSort::Unknown,
     }
 }
 
-/// Whether a block has this many phis and instructions before its end.
-fn has_before_end(block: &Block, place: usize) -> bool
-    ensures { result ≡ true → length block.now.phis + length block.now.body ≡ place }
+/// The same of each name.
+fn sorts_before(alloc: Global, sorts: &[SymbolSort]) -> Result<Items<SymbolSort>, AllocError>
+    ensures { IfOk result (λ before. before ≡ spec.sorts_before sorts.now) }
 {
-    match place.checked_sub(block.phis.len()) {
-        Some(left) => left == block.body.len(),
-        None => false,
+    let mut before = Items::new(alloc);
+    for sort in sorts {
+        before.push(sort_before(*sort))?;
     }
+    Ok(before)
 }
 
-/// Whether the first of these functions stops so.
-fn first_stops_at(functions: &[Function], block: usize, place: usize) -> bool
-    ensures { result ≡ true → spec.FirstStopsAt functions.now block place }
+/// The global names of a module before a function of it is read alone: which are only declared is known, and no more.
+fn names_before(alloc: Global, of_module: &Module) -> Result<Table<SymbolSort>, AllocError>
+    ensures { IfOk result (λ before. before ≡ spec.names_before of_module.now) }
 {
-    match functions.first() {
-        Some(function) => stops_at(function, block, place),
-        None => false,
-    }
+    let names = copy_names(alloc, &of_module.symbols)?;
+    let sorts = sorts_before(alloc, of_module.sorts.as_slice())?;
+    Ok(Table { names, sorts })
 }
 
-/// Whether the tokens of a function before a place are read as the function up to an instruction.
-fn reads_up_to(
+/// Where the instructions begin of the function of this name with which these tokens begin. It is told where the reader reads it so, in
+/// the forms of the module. No clause says that it is always told.
+pub fn places_from(
     alloc: Global,
     text: &[u8],
-    name: &[u8],
     tokens: &[Token],
-    numbers: Numbers,
+    name: &[u8],
     of_module: &Module,
-) -> Result<bool, AllocError>
-    ensures { IfOk result (λ is_read. is_read ≡ true → IsReadUpTo of_module.now.wide text.now name.now tokens.now numbers.block numbers.place) }
+) -> Result<Option<Places>, AllocError>
+    ensures { IfOk result (λ found. IfSome found (λ places. ArePlacesOf of_module.now text.now name.now tokens.now places.blocks)) }
 {
     if text.len() > TEXT_LIMIT {
-        return Ok(false);
+        return Ok(None);
     }
-    let tokens = ended(alloc, tokens)?;
-    let cursor = Cursor::new(text, tokens.as_slice(), None, of_module.wide);
+    let symbols = names_before(alloc, of_module)?;
+    let cursor = Cursor::new(text, tokens, None, of_module.wide);
     let mut input = Input::new(alloc, cursor, of_module.symbols.key());
+    input.symbols = symbols;
     input.wide = of_module.wide;
-    let answer = match function_named(alloc, &mut input, name) {
-        Ok(()) => { Ok(first_stops_at(input.functions.as_slice(), numbers.block, numbers.place)) }
+    let answer = match function_places(alloc, &mut input, name) {
+        Ok(blocks) => Ok(Some(Places { blocks })),
         Err(Fault::Memory) => Err(AllocError),
-        Err(_) => Ok(false),
+        Err(_) => Ok(None),
     };
     drop(input);
     answer
 }
 
-/// The first token of an instruction of the function of this name. It is told only where the reader reads the function up to there
-/// as the function up to the instruction, in the forms of the module. No clause says that it is always told.
+/// The first token of an instruction of the function of this name. It is told only where the reader reads the function so, in the forms
+/// of the module. No clause says that it is always told.
 pub fn first_token(
     alloc: Global,
     text: &[u8],
@@ -151,27 +140,20 @@ pub fn first_token(
     numbers: Numbers,
     of_module: &Module,
 ) -> Result<Option<Token>, AllocError>
-    ensures { IfOk result (λ found. IfSome found (λ token. BeginsAt of_module.now.wide text.now tokens.now name.now numbers.block numbers.place token)) }
+    ensures { IfOk result (λ found. IfSome found (λ token. BeginsAt of_module.now text.now tokens.now name.now numbers.block numbers.place token)) }
 {
-    let source = Source {
-        text,
-        tokens,
-        is_wide: of_module.wide,
-    };
-    let Some(guess) = make_guess(&source, numbers.function, numbers.block, numbers.place) else {
+    let Some(start) = guess_start(tokens, numbers.function, Start::FIRST) else {
         return Ok(None);
     };
-    let Some(token) = tokens.get(guess.instruction) else {
+    let Some(within) = tokens.get(start.token..) else {
         return Ok(None);
     };
-    let before = &tokens[..guess.instruction];
-    let Some(within) = before.get(guess.function..) else {
+    let Some(places) = places_from(alloc, text, within, name, of_module)? else {
         return Ok(None);
     };
-    if begins(token.kind) && reads_up_to(alloc, text, name, within, numbers, of_module)? {
-        Ok(Some(*token))
-    } else {
-        Ok(None)
+    match places.token_at(within, numbers.block, numbers.place) {
+        Some(at) => Ok(within.get(at).copied()),
+        None => Ok(None),
     }
 }
 

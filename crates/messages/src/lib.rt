@@ -1,6 +1,6 @@
 //! How messages are written: what stands out by colour, where something is, and a line of a text with a caret under a part of it. Also
-//! where an instruction begins in the text of a module, which is at its first token, as the reader reads up to there; and the lines of a
-//! certificate. And lines that are offered to write into a module, in the kind of pointers that the module has: how the functions of the
+//! where the instructions of a function begin in the text of a module, which is at their first tokens, as the reader reads them; and the
+//! lines of a certificate. And lines that are offered to write into a module, in the kind of pointers that the module has: how the functions of the
 //! runtime are declared, how a slot is made a root, and names that are not taken. A message may be kept
 //! in its parts, with the changes of files that it offers. Of the texts no contract says more than that they are made.
 #![tactic(auto)]
@@ -24,7 +24,8 @@ mod written_types;
 pub use cert_lines::{CertLine, cert_place};
 pub use declares::{declare_change, is_declared, put_declare_of, put_wanted_declare};
 pub use excerpts::{put_position_line, put_token_line};
-pub use instructions::{Numbers, first_token};
+pub use guesses::{Start, guess_start};
+pub use instructions::{Numbers, Places, first_token, places_from};
 pub use lines::{Line, line_at, line_numbered};
 pub use look::{Ink, Look, Pen};
 pub use marks::put_mark;

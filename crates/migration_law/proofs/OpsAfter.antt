@@ -1,5 +1,5 @@
 -- Instructions that are printable are so once they are opaque.
-use Rattle.std.proofs.Common.{◌≡◌, ◌<◌, ℕ, not, List, [], ◌∷◌, ◌++◌, map, Option, None, Some, inl, inr, refl, sym, ap, ap₂, ◌∙◌, subst}
+use Rattle.std.proofs.Common.{◌≡◌, ◌<◌, ℕ, false, not, List, [], ◌∷◌, ◌++◌, map, Option, None, Some, inl, inr, refl, sym, ap, ap₂, ◌∙◌, subst}
 use Rattle.std.specs.Prelude.{drop, slice_get}
 use Rattle.std.specs.List.{AllByRecursion, flat_map}
 use Rattle.lemmas.specs.Lists.{IsIn}
@@ -31,7 +31,7 @@ use Rattle.ir_forms.specs.declared.case_values.CaseValue.{CaseValue}
 use Rattle.ir_forms.specs.declared.written.Word.{Word}
 use Rattle.copies.specs.Opaque.{opaque_float, new_number, opaque_argument, opaque_block, opaque_declare, opaque_end, opaque_function, opaque_global, opaque_incoming, opaque_instr, opaque_memory, opaque_number, opaque_op, opaque_operand, opaque_parameter, opaque_phi}
 use Rattle.ir_print_law.specs.Calls.{IsCall}
-use Rattle.ir_print_law.specs.Definitions.{block_keys, defined_globals, defined_keys, functions_of, label_keys, parameter_key, parameter_keys, phi_key, result_keys, value_keys, value_keys_of}
+use Rattle.ir_print_law.specs.Definitions.{IsUsed, block_keys, declared_functions, defined_globals, defined_keys, functions_of, label_keys, parameter_key, parameter_keys, phi_key, result_keys, value_keys, value_keys_of}
 use Rattle.ir_print_law.specs.Memory.{IsMemoryOp, memory_gives_value}
 use Rattle.ir_print_law.specs.Numbers.{IsNumberOp}
 use Rattle.ir_forms.specs.FloatOps.{may_convert}
@@ -63,16 +63,23 @@ module _ (m : Module) (ordered : ArePartsBefore m.types) where
   globals_same : defined_globals (o m ordered) ≡ defined_globals m
   globals_same = map_twice (λ (global : Global). name_at m.symbols global.symbol) (opaque_global (numbers m ordered)) m.globals
 
+  declared_same : declared_functions (o m ordered) ≡ declared_functions m
+  declared_same = map_twice (λ (declared : Declare). name_at m.symbols declared.symbol) (opaque_declare (numbers m ordered)) m.declares
+
   functions_same : functions_of (o m ordered) ≡ functions_of m
   functions_same =
-      ap₂ (λ a b. a ++ b) (map_twice (λ (declared : Declare). name_at m.symbols declared.symbol) (opaque_declare (numbers m ordered)) m.declares)
+      ap₂ (λ a b. a ++ b) declared_same
       (map_twice (λ (function : Function). name_at m.symbols function.symbol) (opaque_function (numbers m ordered)) m.functions)
 
   pub symbols_same : defined_globals (o m ordered) ++ functions_of (o m ordered) ≡ defined_globals m ++ functions_of m
   symbols_same = ap₂ (λ a b. a ++ b) globals_same functions_same
 
+  used_still : (name : List ℕ) → IsUsed m false name → IsUsed (o m ordered) false name
+  used_still name (inl is) = inl (subst (IsIn name) (sym globals_same) is)
+  used_still name (inr h) = inr (h.0, subst (IsIn name) (sym declared_same) h.1, h.2)
+
   global_use : (symbol : ℕ) → IsGlobalUse m symbol → IsGlobalUse (o m ordered) symbol
-  global_use symbol h = (subst (IsIn (name_at m.symbols symbol)) (sym globals_same) h.0, h.1)
+  global_use symbol h = (used_still (name_at m.symbols symbol) h.0, h.1)
 
   -- ---- local names
 

@@ -6,14 +6,14 @@ ghost use Rattle.pools.specs.declared.word_kind.WordKind.{WordKind as AWord};
 
 use crate::verdict::{NotAccepted, Reason};
 use certs::Certs;
-use copies::{Certified, copy_shapes, copy_symbols};
+use copies::{Certified, copy_outside, copy_shapes};
 use ir_ast::Module;
 use layout::Program;
 use std::alloc::{AllocError, Global};
 use std::mem;
 
-/// A module with its layouts and the certificates with which it is checked. It has their shapes in place of its own, and trusts what they
-/// trust; a module as it is read has no shapes, and trusts nothing.
+/// A module with its layouts and the certificates with which it is checked. It has their shapes and their numbers of
+/// layouts in place of its own, and trusts what they trust; a module as it is read has no shapes and no numbers, and trusts nothing.
 #[derive(Drop)]
 pub struct UnderCheck {
     program: Program,
@@ -27,7 +27,7 @@ fn said_by(alloc: Global, certs: &Certs) -> Result<Certified, AllocError>
     ensures { IfOk result (λ said. said ≡ record { shapes = certs.now.shapes; trusted = certs.now.foreign }) }
 {
     let shapes = copy_shapes(alloc, &certs.shapes)?;
-    let trusted = copy_symbols(alloc, certs.foreign.as_slice())?;
+    let trusted = copy_outside(alloc, &certs.foreign)?;
     Ok(Certified { shapes, trusted })
 }
 

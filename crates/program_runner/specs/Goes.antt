@@ -22,6 +22,7 @@ use Rattle.ir_ast.specs.declared.runtime.Runtime.{Runtime}
 use Rattle.ir_ast.specs.declared.runtime.Runtime.TheVariants as runtime
 use Rattle.pools.specs.Heap.{Setup}
 use Rattle.layout.specs.Layouts.{LaidOut}
+use Rattle.types.specs.LayoutNumbers.{layout_meant}
 use Rattle.types.specs.RuntimeCall.{runtime_called}
 use Rattle.shadow_stack.specs.Slots.{SlotTable, slots_of, operand_slot}
 use Rattle.machine.specs.declared.action.Action.TheVariants.{Local, Foreign, Wrong}
@@ -30,7 +31,7 @@ use Rattle.machine.specs.declared.frame.Frame.{Frame}
 use Rattle.machine.specs.declared.value.Pointee.{Pointee}
 use Rattle.machine.specs.declared.value.Value.{Value}
 use Rattle.machine.specs.declared.value.Value.TheVariants as value
-use Rattle.machine.specs.Asks.{read_action, load_action, gcread_action, alloc_of, alloc_action, layout_named, defined_action, asked_outside, outside_action, float_action, gives_number, number_asked, number_action, call_action, declare_of, function_numbered, number_called, target_at, edge_of, memory_action, op_action}
+use Rattle.machine.specs.Asks.{read_action, load_action, gcread_action, alloc_of, alloc_action, defined_action, asked_outside, outside_action, float_action, gives_number, number_asked, number_action, call_action, declare_of, function_numbered, number_called, target_at, edge_of, memory_action, op_action}
 use Rattle.machine.specs.Elements.{element_offset}
 use Rattle.machine.specs.Jumps.{entry_for, entry_value, phi_value, phis_of, put_register, put_phis}
 use Rattle.machine.specs.Kinds.{is_integer, is_void, bits_of, register_at, bits_at, value_of, slot_at_place, address_at_place}
@@ -112,15 +113,15 @@ module _ (s : Setup) where
     -- what an alloc gives
     claimed_fits : (returned : ℕ) (arguments : List Argument) (given : Answer) → FitsAsked s (alloc_action p.of_module returned arguments) given → FitsHeap s (alloc_value (layout_of_call p.of_module arguments) given)
     claimed_fits returned [] given h = nothing_claimed s None given h
-    claimed_fits returned (argument ∷ []) given h = by (only_gives s _ (alloc_of (layout_named p.of_module argument.operand)) given h) where
+    claimed_fits returned (argument ∷ []) given h = by (only_gives s _ (alloc_of (layout_meant p.of_module argument.operand)) given h) where
       of_layout : (layout : Option ℕ) → FitsAsked s (alloc_of layout) given → FitsHeap s (alloc_value layout given)
       of_layout None g = nothing_claimed s None given g
       of_layout (Some layout) g = g
 
-      by : FitsAsked s (alloc_of (layout_named p.of_module argument.operand)) given ⊎ GivesNothing given → FitsHeap s (alloc_value (layout_named p.of_module argument.operand) given)
-      by (inl g) = of_layout (layout_named p.of_module argument.operand) g
-      by (inr g) = nothing_claimed s (layout_named p.of_module argument.operand) given g
-    claimed_fits returned (argument ∷ (other ∷ arguments)) given h = nothing_claimed s (layout_named p.of_module argument.operand) given h
+      by : FitsAsked s (alloc_of (layout_meant p.of_module argument.operand)) given ⊎ GivesNothing given → FitsHeap s (alloc_value (layout_meant p.of_module argument.operand) given)
+      by (inl g) = of_layout (layout_meant p.of_module argument.operand) g
+      by (inr g) = nothing_claimed s (layout_meant p.of_module argument.operand) given g
+    claimed_fits returned (argument ∷ (other ∷ arguments)) given h = nothing_claimed s (layout_meant p.of_module argument.operand) given h
 
     module _ (f : Function) (frame : Frame) (fits : FrameFits s frame) where
       -- the slots of the function

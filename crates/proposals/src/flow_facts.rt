@@ -9,7 +9,7 @@ use facts::{Entry, Facts, Known, SpareRows};
 use ir_ast::{BlockId, Call, Constant, Instr, Module, Op, Operand, Runtime, ValueId};
 use items::Items;
 use std::alloc::{AllocError, Global};
-use types::runtime_called;
+use types::{layout_meant, runtime_called};
 
 /// Which facts are those of the edge that was entered.
 #[derive(Clone, Copy)]
@@ -248,19 +248,19 @@ impl FlowFacts {
     }
 }
 
-/// Whether a call asks for a cell of a layout that the module does not have. The check refuses it, and no certificate names the layout.
+/// Whether a call asks for a cell by a number that means no layout. The check refuses it, and no certificate names the layout.
 fn is_of_no_layout(module: &Module, call: &Call) -> bool {
     let runtime = runtime_called(module, call.callee);
     match (&runtime, call.arguments.as_slice()) {
-        (Some(Runtime::Alloc), [layout, ..]) => is_past_layouts(module, &layout.operand),
+        (Some(Runtime::Alloc), [layout, ..]) => numbers_no_layout(module, &layout.operand),
         _ => false,
     }
 }
 
-/// Whether an operand is a number that no layout of the module has.
-fn is_past_layouts(module: &Module, operand: &Operand) -> bool {
+/// Whether an operand is a number that means no layout of the module.
+fn numbers_no_layout(module: &Module, operand: &Operand) -> bool {
     match operand {
-        Operand::Constant(Constant::Number(number)) => *number >= module.structs.len() as u64,
+        Operand::Constant(Constant::Number(_)) => layout_meant(module, operand).is_none(),
         _ => false,
     }
 }

@@ -7,7 +7,7 @@ use crate::summary::FunctionSummary;
 use crate::walk::{FlowAnalysis, FunctionContext};
 use block_rules::RuleContext;
 use certs::{Certs, Promise, Section};
-use ir_ast::{FuncId, IrType, Module, TypeId};
+use ir_ast::{FuncId, IrType, Module, Outside, TypeId};
 use items::Items;
 use layout::Program;
 use layout_flow::LayoutFlow;
@@ -96,7 +96,7 @@ fn walk_all(
     let none = Certs {
         sections: Items::new(alloc),
         shapes: None,
-        foreign: Items::new(alloc),
+        foreign: Outside::none(alloc),
     };
     let context = ModuleContext {
         program,
@@ -214,7 +214,7 @@ fn certs_of(
     Ok(Certs {
         sections,
         shapes: None,
-        foreign: Items::new(alloc),
+        foreign: Outside::none(alloc),
     })
 }
 

@@ -7,6 +7,7 @@ use Rattle.lemmas.specs.Bools.{and_first, and_second, and_true}
 use Rattle.lemmas.specs.Numbers.{test_true, test_yes}
 use Rattle.ir_ast.specs.declared.function.Function.{Function}
 use Rattle.ir_ast.specs.declared.module.Module.{Module}
+use Rattle.ir_ast.specs.declared.outside.Outside.{Outside}
 use Rattle.ir_ast.specs.declared.shapes.Shapes.{Shapes}
 use Rattle.ir_tokens.specs.Bytes.{Text}
 use Rattle.certs.specs.Fits.{fits, section_fits}
@@ -120,9 +121,9 @@ module _ (s t : State) (func : ℕ) (n : Module) (section : Section) (put : Puts
 
   foreign_fitting : foreign_fits (module_in s) s.certs.foreign ≡ true → foreign_fits (module_in t) t.certs.foreign ≡ true
   foreign_fitting fit =
-      subst (λ (x : List ℕ). foreign_fits (module_in t) x ≡ true) (sym is.foreign)
+      subst (λ (x : Outside). foreign_fits (module_in t) x ≡ true) (sym is.foreign)
       (subst (λ (x : Module). foreign_fits x s.certs.foreign ≡ true) (sym same)
-      (foreign_same (module_in s) (with_functions (module_in s) (module_in t).functions) refl (λ d. refl) refl s.certs.foreign ∙ fit))
+      (foreign_same (module_in s) (with_functions (module_in s) (module_in t).functions) refl (λ d. refl) refl refl s.certs.foreign ∙ fit))
 
   fitting_with : StayFitting → FitAlone → RootsFitAlone → IsFitting s → IsFitting t
   fitting_with stay alone roots fit = record {

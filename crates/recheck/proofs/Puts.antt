@@ -3,6 +3,7 @@ use Rattle.std.proofs.Common.{◌≡◌, ℕ, List, length, slice_get, Option, S
 use Rattle.std.specs.Prelude.{slice_set}
 use Rattle.ir_ast.specs.declared.function.Function.{Function}
 use Rattle.ir_ast.specs.declared.module.Module.{Module}
+use Rattle.ir_ast.specs.declared.outside.Outside.{Outside}
 use Rattle.ir_ast.specs.declared.shapes.Shapes.{Shapes}
 use Rattle.ir_tokens.specs.Bytes.{Text}
 use Rattle.certs.specs.declared.certs.Certs.{Certs}
@@ -82,7 +83,7 @@ certs_back certs others again func past section e at back shapes foreign =
     let sections : again.sections ≡ certs.sections = (back ∙ ap (λ (l : List Section). slice_set l func past) e ∙ set_back certs.sections func past section at) in
     ap (λ (l : List Section). record { sections = l; shapes = again.shapes; foreign = again.foreign }) sections
     ∙ ap (λ (x : Option Shapes). record { sections = certs.sections; shapes = x; foreign = again.foreign }) shapes
-    ∙ ap (λ (x : List ℕ). record { sections = certs.sections; shapes = certs.shapes; foreign = x }) foreign
+    ∙ ap (λ (x : Outside). record { sections = certs.sections; shapes = certs.shapes; foreign = x }) foreign
 
 -- the section that was read stands in its place, with the count
 pub put_so : (p : LaidOut) (certs : List Section) (q : LaidOut) (others : List Section) (func : ℕ) (old : Function) (past section : Section) (text : Text) (count : ℕ)

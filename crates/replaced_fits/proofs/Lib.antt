@@ -3,6 +3,7 @@ pub mod Closed
 pub mod GrownFamilies
 pub mod GrownSlots
 pub mod GrownSections
+pub mod GrownNumbers
 pub mod GrownShapes
 pub mod Plain
 pub mod Replaced

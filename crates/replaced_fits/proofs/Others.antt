@@ -15,4 +15,4 @@ module _ (grown : ReplacingKeepsTables) where
   shapes_stay m func code n closed is opaque shaped fit = shapes_stay_by grown m func code n is closed opaque shaped fit
 
   pub foreign_stays : ForeignStaysFitting
-  foreign_stays m func code n is = foreign_stay grown m func code n is
+  foreign_stays m func code n closed is opaque = foreign_stay grown m func code n is closed opaque

@@ -10,6 +10,7 @@ use Rattle.ir_ast.specs.Types.{is_same_type, place_of_type}
 use Rattle.ir_ast.specs.declared.function.Function.{Function}
 use Rattle.ir_ast.specs.declared.ir_type.IrType.TheVariants as type
 use Rattle.ir_ast.specs.declared.module.Module.{Module}
+use Rattle.ir_ast.specs.declared.outside.Outside.{Outside}
 use Rattle.ir_ast.specs.declared.shapes.Shapes.{Shapes}
 use Rattle.ir_tokens.specs.Bytes.{Text}
 use Rattle.ir_text.specs.Replaced.{IsReplaced, put_function}
@@ -20,7 +21,8 @@ use Rattle.types.specs.References.{struct_in, struct_in_is}
 use Rattle.types.specs.RuntimeCall.{is_outside_declare}
 use Rattle.certs.specs.Families.{is_opaque_text}
 use Rattle.certs.specs.Fits.{fits, section_fits}
-use Rattle.certs.specs.ForeignFit.{foreign_fits, foreign_same}
+use Rattle.certs.specs.ForeignFit.{foreign_fits, functions_fit, functions_same}
+use Rattle.certs.specs.NumbersFit.{numbers_fit}
 use Rattle.certs.specs.ShapesFit.{all_shapes_fit, roots_fit, shapes_fit}
 use Rattle.certs.specs.declared.section.Section.{Section}
 use Rattle.certificate.specs.Replaced.{FitOthers}
@@ -28,6 +30,7 @@ use Rattle.replaced_fits.specs.Closed.{IsClosed}
 use Rattle.replaced_fits.specs.ReplacedFits.{AreRootsShaped}
 use Rattle.replaced_fits.proofs.GrownFamilies.{Grows}
 use Rattle.replaced_fits.proofs.GrownSections.{sections_imply}
+use Rattle.replaced_fits.proofs.GrownNumbers.{numbers_imply}
 use Rattle.replaced_fits.proofs.GrownShapes.{shapes_imply}
 use Rattle.replaced_fits.proofs.Implies.{both_imply, itself}
 use Rattle.replaced_fits.proofs.Plain.{fit_each, others_fit}
@@ -60,13 +63,6 @@ module _ (grown : ReplacingKeepsTables) (m : Module) (func : ℕ) (code : Text) 
   declares_same : n.declares ≡ m.declares
   declares_same = sym (ap (λ (x : Module). x.declares) is.2)
 
-  -- the same functions outside are trusted, and may be
-  pub foreign_stay : (n.trusted ≡ m.trusted) × ((foreign : List ℕ) → foreign_fits m foreign ≡ true → foreign_fits n foreign ≡ true)
-  foreign_stay = (
-    sym (ap (λ (x : Module). x.trusted) is.2),
-    λ foreign fit. foreign_same m n sorts_same (λ d. ap (λ x. is_outside_declare (slice_get x d)) declares_same) (sym (ap (λ (x : Module). x.wide) is.2)) foreign ∙ fit,
-  )
-
   grows : is_opaque_text n ≡ is_opaque_text m → Grows m n
   grows opaque = record {
     types = stay.types;
@@ -78,6 +74,17 @@ module _ (grown : ReplacingKeepsTables) (m : Module) (func : ℕ) (code : Text) 
     shapes = shapes_same;
     opaque = opaque;
   }
+
+  -- the same functions outside are trusted, and may be; the same layouts have numbers, and may have
+  pub foreign_stay : IsClosed m → is_opaque_text n ≡ is_opaque_text m → (n.trusted ≡ m.trusted) × ((foreign : Outside) → foreign_fits m foreign ≡ true → foreign_fits n foreign ≡ true)
+  foreign_stay closed opaque = (
+    sym (ap (λ (x : Module). x.trusted) is.2),
+    λ foreign. both_imply (functions_fit m foreign.functions) (numbers_fit m foreign.numbers) (functions_fit n foreign.functions) (numbers_fit n foreign.numbers)
+        (λ fit. functions_same m n sorts_same (λ d. ap (λ x. is_outside_declare (slice_get x d)) declares_same) wide_same foreign.functions ∙ fit)
+        (numbers_imply m n (grows opaque) closed wide_same foreign.numbers),
+  ) where
+    wide_same : n.wide ≡ m.wide
+    wide_same = sym (ap (λ (x : Module). x.wide) is.2)
 
   -- the functions are the module's, but for the one that is put in its place
   abbrev put : Option Function

@@ -2,6 +2,7 @@
 use Rattle.std.specs.Prelude.{◌≡◌, ℕ, true, false, List, Some, slice_get}
 use Rattle.ir_ast.specs.declared.function.Function.{Function}
 use Rattle.ir_ast.specs.declared.module.Module.{Module}
+use Rattle.ir_ast.specs.declared.outside.Outside.{Outside}
 use Rattle.ir_ast.specs.declared.shapes.Shapes.{Shapes}
 use Rattle.ir_tokens.specs.Bytes.{Text}
 use Rattle.ir_text.specs.Replaced.{IsReplaced}
@@ -38,6 +39,7 @@ abbrev pub ShapesStayFitting : Type 0
 ShapesStayFitting = (m : Module) (func : ℕ) (code : Text) (n : Module) → IsClosed m → IsReplaced m func code n → is_opaque_text n ≡ is_opaque_text m → AreRootsShaped n func → shapes_fit m m.shapes ≡ true
     → shapes_fit n n.shapes ≡ true
 
--- where the code of one function is replaced, the module trusts what it did, and functions outside fit it as they did
+-- where the code of one function is replaced, the module trusts what it did, and functions outside and numbers of layouts fit it as they did
 abbrev pub ForeignStaysFitting : Type 0
-ForeignStaysFitting = (m : Module) (func : ℕ) (code : Text) (n : Module) → IsReplaced m func code n → (n.trusted ≡ m.trusted) × ((foreign : List ℕ) → foreign_fits m foreign ≡ true → foreign_fits n foreign ≡ true)
+ForeignStaysFitting = (m : Module) (func : ℕ) (code : Text) (n : Module) → IsClosed m → IsReplaced m func code n → is_opaque_text n ≡ is_opaque_text m
+    → (n.trusted ≡ m.trusted) × ((foreign : Outside) → foreign_fits m foreign ≡ true → foreign_fits n foreign ≡ true)

@@ -3,16 +3,16 @@ use Rattle.std.specs.Prelude.{◌≡◌, ◌≢◌, ◌⊎◌, ℕ, Bool, true, 
 use Rattle.std.specs.Str.{bytes_eq}
 use Rattle.std.specs.Option.{option_map}
 use Rattle.ir_ast.specs.declared.module.Module.{Module}
-use Rattle.ir_ast.specs.declared.shapes.Shapes.{Shapes}
 use Rattle.ir_text.specs.Read as text
 use Rattle.ir_text.specs.declared.read_fault.ReadFault.TheVariants as read
-use Rattle.layout.specs.Functions.{with_shapes}
+use Rattle.layout.specs.Functions.{with_numbers, with_shapes}
 use Rattle.layout.specs.Layouts.{AreLayouts, AreSizes, IsLayoutFault, LaidOut, wants_shapes}
 use Rattle.layout.specs.declared.fault.LayoutFault.TheVariants as layout
 use Rattle.certs.specs.declared.certs.Certs.{Certs}
 use Rattle.certificate.specs.Text as certificate
 use Rattle.certificate.specs.ShapeText as shape_text
 use Rattle.certificate.specs.declared.fault.CertFault.{CertFault}
+use Rattle.certificate.specs.declared.given_shapes.GivenShapes.{GivenShapes}
 use Rattle.certificate.specs.declared.fault.CertFault.TheVariants as cert
 use Rattle.name_text.specs.Words.{past_lines, word_at}
 use Rattle.recheck.specs.Text as edit_text
@@ -21,6 +21,8 @@ use Rattle.trace_text.specs.Text as trace_text
 use Rattle.trace_text.specs.declared.fault.TraceFault.TheVariants as trace
 use Rattle.trace_text.specs.declared.trace.Trace.{Trace}
 use Rattle.reports.specs.declared.files.File.{File}
+use Rattle.reports.specs.declared.files.Files.{Files}
+use Rattle.reports.specs.declared.files.Given.{Given}
 use Rattle.reports.specs.declared.files.ModuleFile.{ModuleFile}
 use Rattle.reports.specs.declared.files.Unread.{Unread}
 use Rattle.reports.specs.declared.files.Unread.TheVariants as unread
@@ -48,15 +50,30 @@ abbrev pub is_wide : Option ModuleFile → Bool
 is_wide None = false
 is_wide (Some of_module) = of_module.wide
 
+-- whether all of the text of this module is to be kept
+abbrev pub keeps : Option ModuleFile → Bool
+keeps None = false
+keeps (Some of_module) = of_module.keeps
+
+-- the file of a module of whose text all is to be kept
+abbrev pub kept : Option ModuleFile → Option ModuleFile
+kept None = None
+kept (Some of_module) = Some (record of_module { keeps = true })
+
+-- the files of a command that has to keep all of the module
+abbrev pub kept_files : Files → Files
+kept_files files = record files { of_module = kept files.of_module }
+
 -- the file has this path and cannot be read
 abbrev pub IsNoFile : (path : List ℕ) → Option File → Type 0
 IsNoFile path file = (path ≡ path_of file) × (bytes_of file ≡ None)
 
 -- ---- what is read
 
--- the file is a text of this module, in the forms that may stand in it
+-- the file is a text of this module, in the forms that may stand in it; where all is to be kept, nothing of it is lost
 abbrev pub HasModule : Option ModuleFile → Module → Type 0
-HasModule first m = (bytes : List ℕ) × (bytes_of (file_of first) ≡ Some bytes) × text.IsTextIn (is_wide first) bytes m
+HasModule first m =
+    (bytes : List ℕ) × (bytes_of (file_of first) ≡ Some bytes) × text.IsTextIn (is_wide first) bytes m × (keeps first ≡ true → text.IsKeptText (is_wide first) bytes m)
 
 -- the file is a text of these certificates of the module
 abbrev pub HasCerts : Option File → Module → Certs → Type 0
@@ -70,24 +87,32 @@ HasEdits file edits = (bytes : List ℕ) × (bytes_of file ≡ Some bytes) × ed
 abbrev pub is_certificate : List ℕ → Bool
 is_certificate bytes = bytes_eq (word_at (past_lines false bytes)) (codes "cert")
 
--- these are the shapes in a text of shapes, or in a certificate: one of typed pointers has none
-abbrev pub AreShapesOf : List ℕ → Module → Option Shapes → Type 0
-AreShapesOf bytes m shapes =
-    ((is_certificate bytes ≡ true) × ((certs : Certs) × certificate.IsCert bytes m certs × (certs.shapes ≡ shapes)))
-    ⊎ ((is_certificate bytes ≡ false) × ((read : Shapes) × shape_text.AreShapes bytes m read × (Some read ≡ shapes)))
+-- what certificates give a module to which shapes are given: their shapes, and their numbers of layouts
+abbrev pub given_by_certs : Certs → Given
+given_by_certs certs = record { shapes = certs.shapes; numbers = certs.foreign.numbers }
+
+-- the same of a text of shapes
+abbrev pub given_by_shapes : GivenShapes → Given
+given_by_shapes read = record { shapes = Some read.shapes; numbers = read.numbers }
+
+-- these are the shapes and the numbers of layouts in a text of shapes, or in a certificate: one of typed pointers has no shapes
+abbrev pub AreShapesOf : List ℕ → Module → Given → Type 0
+AreShapesOf bytes m given =
+    ((is_certificate bytes ≡ true) × ((certs : Certs) × certificate.IsCert bytes m certs × (given_by_certs certs ≡ given)))
+    ⊎ ((is_certificate bytes ≡ false) × ((read : GivenShapes) × shape_text.AreShapes bytes m read × (given_by_shapes read ≡ given)))
 
 -- the first fault of a text of shapes, or of a certificate
 abbrev pub IsShapesFaultOf : List ℕ → Module → CertFault → Type 0
 IsShapesFaultOf bytes m fault =
     ((is_certificate bytes ≡ true) × certificate.IsFault bytes m fault) ⊎ ((is_certificate bytes ≡ false) × shape_text.IsShapesFault bytes m fault)
 
--- the module with shapes that were read for it: they count where it writes `ptr`
-abbrev pub with_read : Module → Option Shapes → Module
-with_read m shapes = if wants_shapes m then with_shapes m shapes else m
+-- the module with shapes and numbers of layouts that were read for it: the shapes count where it writes `ptr`
+abbrev pub with_read : Module → Given → Module
+with_read m given = with_numbers (if wants_shapes m then with_shapes m given.shapes else m) given.numbers
 
 -- the file is a text of shapes of the first module, or a certificate of it, and the second module is the first with them
 abbrev pub IsRead : File → (of_module shaped : Module) → Type 0
-IsRead file of_module shaped = (bytes : List ℕ) × (shapes : Option Shapes) × (bytes_of (Some file) ≡ Some bytes) × AreShapesOf bytes of_module shapes × (shaped ≡ with_read of_module shapes)
+IsRead file of_module shaped = (bytes : List ℕ) × (given : Given) × (bytes_of (Some file) ≡ Some bytes) × AreShapesOf bytes of_module given × (shaped ≡ with_read of_module given)
 
 -- the first file is a text of this module, with the shapes of the other file where it is given
 abbrev pub HasShaped : (first : Option ModuleFile) → (shapes : Option File) → Module → Type 0
@@ -108,7 +133,7 @@ HasTrace file p trace = (bytes : List ℕ) × (bytes_of file ≡ Some bytes) × 
 abbrev pub IsNoModule : Option ModuleFile → Unread → Type 0
 IsNoModule first (unread.NoFile path) = IsNoFile path.now (file_of first)
 IsNoModule first (unread.NoModule fault) =
-    (bytes : List ℕ) × (bytes_of (file_of first) ≡ Some bytes) × (fault ≢ read.Memory → text.IsFaultIn (is_wide first) bytes fault)
+    (bytes : List ℕ) × (bytes_of (file_of first) ≡ Some bytes) × (fault ≢ read.Memory → text.IsFaultAs (keeps first) (is_wide first) bytes fault)
 IsNoModule first _ = ⊥
 
 -- the first fault in the file of the certificates of this module

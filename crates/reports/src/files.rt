@@ -6,12 +6,12 @@ ghost use Rattle.certs.specs.Fits.{fits};
 ghost use Rattle.trace_text.specs.Traces.{IsTraceOf};
 ghost use Rattle.reports.specs.Files as spec;
 ghost use Rattle.certificate.specs.declared.fault.CertFault.TheVariants as cert;
-ghost use Rattle.reports.specs.Files.{AreShapesOf, IsShapesFaultOf, file_of, is_certificate, is_wide, HasModule, HasCerts, HasEdits, HasProgram, HasShaped, HasTrace, IsNoModule, IsNoCertificate, IsNoEdits, IsNoProgram, IsNoShaped, IsNoShapes, IsNoTrace, IsRead, IsUncertified, IsUntraced, with_read};
+ghost use Rattle.reports.specs.Files.{AreShapesOf, IsShapesFaultOf, file_of, is_certificate, is_wide, keeps, kept, kept_files, HasModule, HasCerts, HasEdits, HasProgram, HasShaped, HasTrace, IsNoModule, IsNoCertificate, IsNoEdits, IsNoProgram, IsNoShaped, IsNoShapes, IsNoTrace, IsRead, IsUncertified, IsUntraced, with_read};
 
-use certificate::{CertFault, read_cert, read_shapes};
+use certificate::{CertFault, GivenShapes, read_cert, read_shapes};
 use certs::Certs;
-use ir_ast::{Module, Shapes};
-use ir_text::{ReadFault, read_in};
+use ir_ast::{LayoutNumber, Module, Outside, Shapes};
+use ir_text::{ReadFault, read_as};
 use items::Items;
 use layout::{NotAProgram, Program, wants_shapes};
 use name_text::{past_lines, word};
@@ -31,6 +31,8 @@ pub struct File<'a> {
 pub struct ModuleFile<'a> {
     pub file: File<'a>,
     pub wide: bool,
+    /// Whether all is to be kept that compiled code needs. A text of which some is lost has L7 then.
+    pub keeps: bool,
 }
 
 /// The files of a command, by what each is. None is a file that the line does not give. One that a command needs counts then as a file
@@ -65,6 +67,39 @@ pub fn is_wide(of_module: Option<ModuleFile<'_>>) -> bool
         Some(of_module) => of_module.wide,
         None => false,
     }
+}
+
+/// Whether all of the text of this module is to be kept.
+fn keeps(of_module: Option<ModuleFile<'_>>) -> bool
+    ensures { result ≡ keeps of_module.entry }
+{
+    match of_module {
+        Some(of_module) => of_module.keeps,
+        None => false,
+    }
+}
+
+/// The file of a module of whose text all is to be kept.
+fn kept<'a>(of_module: Option<ModuleFile<'a>>) -> Option<ModuleFile<'a>>
+    ensures { result ≡ kept of_module.entry }
+{
+    match of_module {
+        Some(of_module) => Some(ModuleFile {
+            file: of_module.file,
+            wide: of_module.wide,
+            keeps: true,
+        }),
+        None => None,
+    }
+}
+
+/// The files of a command that has to keep all of the module.
+pub fn kept_files<'a>(files: &Files<'a>) -> Files<'a>
+    ensures { result ≡ kept_files files.now }
+{
+    let mut of_kept = *files;
+    of_kept.of_module = kept(files.of_module);
+    of_kept
 }
 
 /// The path of a file, empty where it is not given.
@@ -123,7 +158,12 @@ pub fn module_in<'a>(alloc: Global, files: &Files<'a>) -> Result<Module, Unread<
     let Some(text) = bytes_of(file) else {
         return Err(Unread::NoFile(path_of(file)));
     };
-    match read_in(alloc, text, is_wide(files.of_module)) {
+    match read_as(
+        alloc,
+        text,
+        is_wide(files.of_module),
+        keeps(files.of_module),
+    ) {
         Ok(of_module) => Ok(of_module),
         Err(fault) => Err(Unread::NoModule(fault)),
     }
@@ -182,9 +222,16 @@ fn is_certificate(text: &[u8]) -> bool
     word(past_lines(text)) == b"cert".as_slice()
 }
 
-/// The shapes that certificates have.
-fn shapes_of_certs(certs: Certs) -> Option<Shapes>
-    ensures { result ≡ certs.shapes }
+/// What is read for a module to which shapes are given: shapes, if there are some, and numbers of layouts.
+#[derive(Drop)]
+pub struct Given {
+    pub shapes: Option<Shapes>,
+    pub numbers: Items<LayoutNumber>,
+}
+
+/// The shapes that certificates have, and their numbers of layouts.
+fn given_by_certs(certs: Certs) -> Given
+    ensures { result ≡ spec.given_by_certs certs }
 {
     let Certs {
         sections,
@@ -192,41 +239,50 @@ fn shapes_of_certs(certs: Certs) -> Option<Shapes>
         foreign,
     } = certs;
     drop(sections);
-    drop(foreign);
-    shapes
+    let Outside { functions, numbers } = foreign;
+    drop(functions);
+    Given { shapes, numbers }
 }
 
-/// The shapes in a text of shapes, or in a certificate. A certificate of typed pointers has none.
-fn shapes_in_text(
-    alloc: Global,
-    text: &[u8],
-    of_module: &Module,
-) -> Result<Option<Shapes>, CertFault>
+/// The same of a text of shapes.
+fn given_by_shapes(read: GivenShapes) -> Given
+    ensures { result ≡ spec.given_by_shapes read }
+{
+    Given {
+        shapes: Some(read.shapes),
+        numbers: read.numbers,
+    }
+}
+
+/// The shapes and the numbers of layouts in a text of shapes, or in a certificate. A certificate of typed pointers has no shapes.
+fn shapes_in_text(alloc: Global, text: &[u8], of_module: &Module) -> Result<Given, CertFault>
     ensures found { IfOk result (AreShapesOf text.now of_module.now) }
     ensures fault { IfErr result (λ e. e ≢ cert.Memory → IsShapesFaultOf text.now of_module.now e) }
 {
     if is_certificate(text) {
         return match read_cert(alloc, text, of_module) {
-            Ok(certs) => Ok(shapes_of_certs(certs)),
+            Ok(certs) => Ok(given_by_certs(certs)),
             Err(fault) => Err(fault),
         };
     }
     match read_shapes(alloc, text, of_module) {
-        Ok(shapes) => Ok(Some(shapes)),
+        Ok(read) => Ok(given_by_shapes(read)),
         Err(fault) => Err(fault),
     }
 }
 
-/// A module with shapes that were read for it. They count where it writes `ptr`, and are ignored otherwise.
-fn with_read(of_module: Module, shapes: Option<Shapes>) -> Module
-    ensures { result ≡ with_read of_module shapes }
+/// A module with shapes and numbers of layouts that were read for it. The shapes count where it writes `ptr`, and are ignored otherwise.
+fn with_read(of_module: Module, given: Given) -> Module
+    ensures { result ≡ with_read of_module given }
 {
     let mut of_module = of_module;
+    let Given { shapes, numbers } = given;
     if wants_shapes(&of_module) {
         of_module.shapes = shapes;
     } else {
         drop(shapes);
     }
+    of_module.trusted.numbers = numbers;
     of_module
 }
 
@@ -244,7 +300,7 @@ fn with_shapes_in<'a>(
         return Err(Unread::NoFile(file.path));
     };
     match shapes_in_text(alloc, text, &of_module) {
-        Ok(shapes) => Ok(with_read(of_module, shapes)),
+        Ok(given) => Ok(with_read(of_module, given)),
         Err(fault) => Err(Unread::NoCertificate(of_module, fault)),
     }
 }

@@ -18,7 +18,7 @@ mod verdicts;
 pub use faults::{memory, no_certificate, no_layouts};
 pub use files::{
     Certified, File, Files, ModuleFile, Traced, Unread, bytes_of, edits_in, file_of, is_wide,
-    module_in, path_of, program_in, read_certified, read_traced, shaped_in, trace_in,
+    kept_files, module_in, path_of, program_in, read_certified, read_traced, shaped_in, trace_in,
 };
 pub use findings::{Findings, show_accepted, show_layouts};
 pub use outcomes::{no_threads, replayed, write_break};

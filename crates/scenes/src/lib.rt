@@ -9,6 +9,7 @@ mod entered;
 mod known;
 mod names;
 mod operands;
+mod places;
 mod scene;
 mod spans;
 mod subjects;
@@ -21,6 +22,7 @@ pub use definitions::{
 pub use known::{put_claim, put_known};
 pub use names::{put_block, put_function, put_operand, put_spot, put_symbol};
 pub use operands::{operands_of, reference_of, slot_among};
+pub use places::FunctionPlaces;
 pub use scene::{Scene, Source, Spot, There};
 pub use spans::token_within;
 pub use subjects::{arguments_of, is_runtime_call, place_of, subject_of};

@@ -59,16 +59,15 @@ pub fn put_operand(out: &mut Message, scene: &Scene, operand: Operand) {
 pub fn put_spot(out: &mut Message, scene: &Scene, spot: &Spot) {
     let source = scene.source;
     match scene.token_of(spot) {
-        Ok(Some(token)) => {
+        Some(token) => {
             let position = Position::of(source.text, token.start);
             put_path_at(out, source.path, position)
         }
-        Ok(None) => {
+        None => {
             out.begin_part(Part::Between);
             put_block(out, scene, spot.block);
             out.put(" ");
             out.put_number(spot.place as u64)
         }
-        Err(_) => out.refuse(),
     }
 }

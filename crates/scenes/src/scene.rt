@@ -1,10 +1,11 @@
 //! The text of a module, and a refused instruction in it with what is known before it.
+use crate::places::FunctionPlaces;
 use block_rules::{Refusal, RuleContext};
 use diagnosis::facts_before;
 use facts::Facts;
 use ir_ast::{BlockId, End, Function, Instr, Operand, Phi, ValueId};
 use ir_tokens::Token;
-use messages::{NamedText, Numbers, Pen, first_token};
+use messages::{NamedText, Pen};
 use shadow_stack::slots_of;
 use std::alloc::AllocError;
 
@@ -28,6 +29,8 @@ pub struct Spot {
 pub struct Scene<'a> {
     pub pen: Pen,
     pub source: Source<'a>,
+    /// Where the instructions of the function are, if it was read.
+    pub places: Option<&'a FunctionPlaces>,
     pub certificate: NamedText<'a>,
     pub context: RuleContext<'a>,
     pub facts: &'a Facts,
@@ -67,31 +70,28 @@ impl<'a> Scene<'a> {
         )
     }
 
-    /// The same with the names of another function.
+    /// The same with the names of another function, which is not read.
     pub fn of_function(&self, function: &'a Function) -> Scene<'a> {
         let context = RuleContext {
             function,
             ..self.context
         };
-        Scene { context, ..*self }
+        Scene {
+            context,
+            places: None,
+            ..*self
+        }
+    }
+
+    /// The number of the first token of an instruction of the function.
+    pub fn token_number(&self, spot: &Spot) -> Option<usize> {
+        self.places?.token_at(&self.source, spot)
     }
 
     /// The first token of an instruction of the function.
-    pub fn token_of(&self, spot: &Spot) -> Result<Option<Token>, AllocError> {
-        let symbol = self.context.function.symbol.number() as usize;
-        let of_module = self.context.module();
-        first_token(
-            self.pen.alloc,
-            self.source.text,
-            self.source.tokens,
-            of_module.symbols.name_at(symbol),
-            Numbers {
-                function: self.refusal.func.number() as usize,
-                block: spot.block.number() as usize,
-                place: spot.place,
-            },
-            of_module,
-        )
+    pub fn token_of(&self, spot: &Spot) -> Option<Token> {
+        let number = self.token_number(spot)?;
+        self.source.tokens.get(number).copied()
     }
 
     /// What is known before an instruction of the function.

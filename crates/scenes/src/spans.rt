@@ -6,29 +6,28 @@ use ir_tokens::{Kind, Token};
 use messages::Message;
 use std::alloc::AllocError;
 
-/// The first token of the instruction after one, in its block or in the next one.
-fn next_token(scene: &Scene, spot: &Spot) -> Result<Option<Token>, AllocError> {
+/// The number of the first token of the instruction after one, in its block or in the next one.
+fn next_number(scene: &Scene, spot: &Spot) -> Option<usize> {
     let next = Spot {
         block: spot.block,
         place: spot.place.saturating_add(1),
     };
-    let found = scene.token_of(&next)?;
-    if found.is_some() {
-        return Ok(found);
-    }
     let first = Spot {
         block: BlockId::new(spot.block.number().saturating_add(1)),
         place: 0,
     };
-    scene.token_of(&first)
+    match scene.token_number(&next) {
+        Some(number) => Some(number),
+        None => scene.token_number(&first),
+    }
 }
 
-/// Where the next instruction begins.
-fn end_of(scene: &Scene, spot: &Spot) -> Result<usize, AllocError> {
-    match next_token(scene, spot)? {
-        Some(token) => Ok(token.start as usize),
-        None => Ok(scene.source.text.len()),
-    }
+/// The tokens from an instruction up to the next one, or to the end of the text.
+pub fn tokens_of<'a>(scene: &Scene<'a>, spot: &Spot) -> Option<&'a [Token]> {
+    let tokens = scene.source.tokens;
+    let first = scene.token_number(spot)?;
+    let after = next_number(scene, spot).unwrap_or(tokens.len());
+    tokens.get(first..after)
 }
 
 /// Whether the body of a function ends here.
@@ -45,17 +44,15 @@ fn is_spelled(text: &[u8], token: &Token, name: &[u8]) -> bool {
     }
 }
 
-/// The last token from one place to another that is spelled so.
-fn last_spelled(scene: &Scene, first: Token, end: usize, name: &[u8]) -> Option<Token> {
+/// The last of these tokens in a function that is spelled so.
+fn last_spelled(text: &[u8], tokens: &[Token], name: &[u8]) -> Option<Token> {
     let mut found = None;
-    for token in scene.source.tokens {
-        if token.start >= first.start {
-            if token.start as usize >= end || ends_function(token) {
-                return found;
-            }
-            if is_spelled(scene.source.text, token, name) {
-                found = Some(*token);
-            }
+    for token in tokens {
+        if ends_function(token) {
+            return found;
+        }
+        if is_spelled(text, token, name) {
+            found = Some(*token);
         }
     }
     found
@@ -67,18 +64,17 @@ pub fn token_within(
     spot: &Spot,
     operand: Option<Operand>,
 ) -> Result<Option<Token>, AllocError> {
-    let Some(first) = scene.token_of(spot)? else {
+    let Some(tokens) = tokens_of(scene, spot) else {
         return Ok(None);
     };
+    let first = tokens.first().copied();
     let Some(operand) = operand else {
-        return Ok(Some(first));
+        return Ok(first);
     };
     let mut name = Message::new(scene.pen.alloc);
     put_operand(&mut name, scene, operand);
     let name = name.finish()?;
-    let end = end_of(scene, spot)?;
-    match last_spelled(scene, first, end, name.as_slice()) {
-        Some(token) => Ok(Some(token)),
-        None => Ok(Some(first)),
-    }
+    let found = last_spelled(scene.source.text, tokens, name.as_slice());
+    drop(name);
+    Ok(found.or(first))
 }

@@ -12,6 +12,7 @@ use Rattle.ir_ast.specs.declared.operand.Operand.{Operand}
 use Rattle.ir_ast.specs.declared.operand.Operand.TheVariants as operand
 use Rattle.pools.specs.Heap.{Setup}
 use Rattle.layout.specs.Layouts.{LaidOut}
+use Rattle.outside_names.specs.Operands.{is_outside_operand}
 use Rattle.shadow_stack.specs.Slots.{SlotTable}
 use Rattle.certs.specs.declared.section.Section.{Section}
 use Rattle.fact_tables.specs.declared.known.Known.TheVariants.{Nothing}
@@ -51,6 +52,13 @@ null_same (operand.Local v) e = absurd cc
 null_same (operand.Global g) e = absurd cc
 null_same (operand.CastGlobal from g to) e = absurd cc
 
+-- so it is with what is null or outside
+address_same : (x : Operand) (outside : Bool) → (o.is_null x || outside) ≡ true → (k.is_null_operand x || outside) ≡ true
+address_same x outside e = elim (or_parts (o.is_null x) outside e) [
+  | inl null ↦ or_first (k.is_null_operand x) outside (null_same x null)
+  | inr is ↦ or_second (k.is_null_operand x) outside is
+]
+
 -- void is the kind without a value
 void_is : (x : TypeKind) → is_void x ≡ true → x ≡ NoValue
 void_is NoValue e = refl
@@ -63,20 +71,21 @@ void_is Other e = absurd cc
 module _ (heap : Setup) (p : LaidOut) (certs : List Section) (reaches : Bool) (f : Function) (table : SlotTable) (guarded : Guarded) (log : Log) (here : InstrContext) (cells : Cells) (facts : FactSet) (frame : Frame) (h : Holds heap p table guarded log cells facts frame.registers frame.slots) (result : Option ℕ) (returned : ℕ) where
   -- an argument that the rules allow is taken
   argument_taken : (argument : Argument) → o.is_available table facts argument.operand ≡ true → is_foreign_argument p.of_module f table facts argument ≡ true → o.is_no_slot table argument.operand ≡ true
-      → (k.is_usable_number p.of_module f table frame.registers argument.written argument.operand || a.is_null_argument p.of_module argument) ≡ true
+      → (k.is_usable_number p.of_module f table frame.registers argument.written argument.operand || a.is_address_argument p.of_module argument) ≡ true
   argument_taken argument k1 k2 k10 =
       let m = p.of_module in
       let usable = k.is_usable_number m f table frame.registers argument.written argument.operand in
-      elim (or_parts (is_integer (kind_of m argument.written) && o.is_value m f table facts argument.written argument.operand) (o.is_null argument.operand && is_pointer (kind_of m argument.written)) k2) [
+      elim (or_parts (is_integer (kind_of m argument.written) && o.is_value m f table facts argument.written argument.operand) ((o.is_null argument.operand || is_outside_operand m argument.operand) && is_pointer (kind_of m argument.written)) k2) [
         | inl number ↦
             let b = and_parts (is_integer (kind_of m argument.written)) (o.is_value m f table facts argument.written argument.operand) number in
             let bits = kind_bits heap p certs reaches f table guarded log cells facts frame h (kind_of m argument.written) b.0 in
-            or_first usable (a.is_null_argument m argument)
+            or_first usable (a.is_address_argument m argument)
             (number_usable heap p certs reaches f table guarded log cells facts frame h argument.written bits.0 argument.operand bits.1 k1 (of_value m f table facts argument.written argument.operand b.1) (none_of (o.slot_named table argument.operand) k10))
-        | inr null ↦
-            let b = and_parts (o.is_null argument.operand) (is_pointer (kind_of m argument.written)) null in
-            or_second usable (a.is_null_argument m argument)
-            (and_true (k.is_null_operand argument.operand) (k.is_pointer_type (slice_get m.types argument.written)) (null_same argument.operand b.0) (sym (pointer_type_same m argument.written) ∙ b.1))
+        | inr address ↦
+            let outside = is_outside_operand m argument.operand in
+            let b = and_parts (o.is_null argument.operand || outside) (is_pointer (kind_of m argument.written)) address in
+            or_second usable (a.is_address_argument m argument)
+            (and_true (k.is_null_operand argument.operand || outside) (k.is_pointer_type (slice_get m.types argument.written)) (address_same argument.operand outside b.0) (sym (pointer_type_same m argument.written) ∙ b.1))
       ]
 
   -- so is each, written with the type of its parameter
@@ -91,7 +100,7 @@ module _ (heap : Setup) (p : LaidOut) (certs : List Section) (reaches : Bool) (f
       let a2 = and_parts (is_foreign_argument p.of_module f table facts argument) (list_all (is_foreign_argument p.of_module f table facts) arguments) k2 in
       let a10 = and_parts (o.is_no_slot table argument.operand) (no_slots table arguments) k10 in
       and_true (argument.written == type) _ w.0
-      (and_true (k.is_usable_number p.of_module f table frame.registers argument.written argument.operand || a.is_null_argument p.of_module argument) (a.are_outside_arguments p.of_module f table frame.registers types arguments)
+      (and_true (k.is_usable_number p.of_module f table frame.registers argument.written argument.operand || a.is_address_argument p.of_module argument) (a.are_outside_arguments p.of_module f table frame.registers types arguments)
       (argument_taken argument a1.0 a2.0 a10.0) (all_taken types arguments (omega (arith, same)) w.1 a1.1 a2.1 a10.1))
 
   -- a function without a result gives nothing
@@ -119,7 +128,7 @@ module _ (heap : Setup) (p : LaidOut) (certs : List Section) (reaches : Bool) (f
   foreign_goes defined d arguments trusted e =
       let m = p.of_module in
       let all = rules_hold (foreign_conditions m f table here facts returned arguments (Some d)) e in
-      let is_trusted = list_any (λ s. s == d.symbol) m.trusted in
+      let is_trusted = list_any (λ s. s == d.symbol) m.trusted.functions in
       let gives = is_void (kind_of m d.returned) || is_integer (kind_of m d.returned) in
       let arity = length arguments == length d.parameters in
       let wide = and_parts m.wide (is_trusted && (gives && arity)) trusted in

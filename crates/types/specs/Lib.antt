@@ -3,3 +3,4 @@ pub mod RuntimeCall
 pub mod Elements
 pub mod ValueTypes
 pub mod Globals
+pub mod LayoutNumbers

@@ -36,10 +36,11 @@ pub fn is_outside(module: &Module, symbol: SymbolId) -> bool
 
 /// Whether the certificates of the module trust the function of this name, which is one outside of it.
 pub fn is_trusted(module: &Module, symbol: SymbolId) -> bool
-    ensures { result ≡ list_any (λ s. s == symbol) «module».now.trusted }
+    ensures { result ≡ list_any (λ s. s == symbol) «module».now.trusted.functions }
 {
     module
         .trusted
+        .functions
         .as_slice()
         .iter()
         .any(|trusted| *trusted == symbol)

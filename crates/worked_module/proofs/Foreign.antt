@@ -76,7 +76,7 @@ m0 = record {
   declares = d0 ∷ [];
   functions = f0 ∷ [];
   shapes = None;
-  trusted = 1 ∷ [];
+  trusted = record { functions = 1 ∷ []; numbers = [] };
   wide = true;
 }
 

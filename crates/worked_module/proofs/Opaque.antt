@@ -8,6 +8,7 @@
 --     }
 use Rattle.std.proofs.Common.{◌≡◌, ◌<◌, ℕ, zero, suc, false, List, [], ◌∷◌, length, Some, None, refl, sym, subst, arith, lit<, lit≤}
 use Rattle.std.specs.Prelude.{codes}
+use Rattle.ir_ast.specs.Outside.{none_outside}
 use Rattle.ir_ast.specs.declared.module.Module.{Module}
 use Rattle.ir_ast.specs.declared.ir_type.IrType.TheVariants as type
 use Rattle.ir_ast.specs.declared.function.Function.{Function}
@@ -59,7 +60,7 @@ m0 = record {
   declares = [];
   functions = f0 ∷ [];
   shapes = Some (record { words = (Some 0 ∷ []) ∷ []; globals = Some 0 ∷ []; roots = [] });
-  trusted = [];
+  trusted = none_outside;
   wide = false;
 }
 

@@ -32,7 +32,7 @@ number_word n = record { cell = n; birth = 0 }
 -- a program of the wide forms trusts the function with this name, which it calls; its first thread, which gets 300 from outside, then writes what a type of eight bits holds of that
 pub record CallsOutside (program : LaidOut) (starts : ℕ → ProgramThread) : Type 0 where
   pub wide : program.of_module.wide ≡ true
-  pub trusts : program.of_module.trusted ≡ 1 ∷ []
+  pub trusts : program.of_module.trusted.functions ≡ 1 ∷ []
   pub gets : (starts 0).values ≡ 300 ∷ []
   pub writes : asks (goes_on (goes_on (starts 0) (Got (number_word 0))) Done) ≡ StorePlain null 0 (number_word 44)
 

@@ -1,4 +1,5 @@
-use Rattle.std.proofs.Common.{◌≡◌, ◌∙◌, ℕ, List, Option, ap, subst, sym}
+use Rattle.std.proofs.Common.{◌≡◌, ◌∙◌, Option, ap, subst, sym}
+use Rattle.ir_ast.specs.declared.outside.Outside.{Outside}
 use Rattle.ir_ast.specs.declared.shapes.Shapes.{Shapes}
 use Rattle.certs.specs.declared.certs.Certs.{Certs}
 use Rattle.recheck.specs.Edits.{IsRead, IsEdited, IsEditFault}
@@ -11,7 +12,7 @@ returns-clause-accepted c =
     let old = c.self.inside in
     let new = c.put_edit.new.certs in
     let certs : ◌≡◌ {A = Certs} (record old.certs { sections = new.sections }) new =
-    ap (λ (x : Option Shapes). record { sections = new.sections; shapes = x; foreign = old.certs.foreign }) (sym c.put_edit.ensures.shapes) ∙ ap (λ (x : List ℕ). record { sections = new.sections; shapes = new.shapes; foreign = x }) (sym c.put_edit.ensures.foreign) in
+    ap (λ (x : Option Shapes). record { sections = new.sections; shapes = x; foreign = old.certs.foreign }) (sym c.put_edit.ensures.shapes) ∙ ap (λ (x : Outside). record { sections = new.sections; shapes = new.shapes; foreign = x }) (sym c.put_edit.ensures.foreign) in
     let put = subst (λ (x : Certs). IsEdited (state old.program old.certs old.certs.sections old.rechecked) c.args.edit.now (record { program = c.put_edit.new.program; certs = x; rechecked = c.in-Ok.rechecked })) certs (c.in-Ok.ensures.put old.rechecked) in
     subst (λ (s : State). IsEdited s c.args.edit.now (record { program = c.put_edit.new.program; certs = new; rechecked = c.in-Ok.rechecked })) c.self.view_is put
 

@@ -1,0 +1,7 @@
+@d = private unnamed_addr constant [6 x i8] c"hello\00", align 1
+declare void @take(ptr)
+define void @f() gc "shadow-stack" {
+entry:
+  call void @take(ptr getelementptr (i8, ptr @d, i64 ptrtoint (ptr @f to i64)))
+  ret void
+}

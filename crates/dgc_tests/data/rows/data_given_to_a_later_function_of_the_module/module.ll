@@ -1,0 +1,11 @@
+%Node = type { i64 }
+@d = private unnamed_addr constant [6 x i8] c"hello\00", align 1
+define void @f() gc "shadow-stack" {
+entry:
+  call void @g(ptr @d)
+  ret void
+}
+define void @g(ptr %a) gc "shadow-stack" {
+entry:
+  ret void
+}

@@ -1,0 +1,6 @@
+@d = private unnamed_addr constant [6 x i8] c"hello\00", align 1
+define void @f() gc "shadow-stack" {
+entry:
+  %p = getelementptr [6 x i8], ptr @d, i64 0, i64 1
+  ret void
+}

@@ -1,0 +1,5 @@
+@dg_alloc = global [2 x i8] c"ab"
+define void @f() {
+entry:
+  ret void
+}

@@ -1,0 +1,5 @@
+@d = thread_local global [1 x i8] c"a"
+define void @f() {
+entry:
+  ret void
+}

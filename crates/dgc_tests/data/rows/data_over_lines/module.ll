@@ -1,0 +1,10 @@
+@d = constant [2 x i32] [
+  i32 1,
+  i32 2
+], align 4
+declare void @take(ptr)
+define void @f() gc "shadow-stack" {
+entry:
+  call void @take(ptr @d)
+  ret void
+}

@@ -1,0 +1,5 @@
+define void @f() {
+entry:
+  ret void
+}
+@d = constant [1 x i8] c"a"

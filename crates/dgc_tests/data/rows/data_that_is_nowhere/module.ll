@@ -1,0 +1,6 @@
+declare void @take(ptr)
+define void @f() gc "shadow-stack" {
+entry:
+  call void @take(ptr @d)
+  ret void
+}

@@ -1,0 +1,7 @@
+@d = private unnamed_addr constant [6 x i8] c"hello\00", align 1
+define void @f() gc "shadow-stack" {
+entry:
+  %s = alloca i64
+  store ptr @d, ptr %s
+  ret void
+}

@@ -1,0 +1,8 @@
+@a = constant [1 x i8] c"a"
+@d = private unnamed_addr constant [6 x i8] c"hello\00", align 1
+declare void @take(ptr)
+define void @f() gc "shadow-stack" {
+entry:
+  call void @take(ptr @d)
+  ret void
+}

@@ -1,0 +1,7 @@
+@"a b" = constant [1 x i8] c"a"
+declare void @take(ptr)
+define void @f() gc "shadow-stack" {
+entry:
+  call void @take(ptr @"a b")
+  ret void
+}

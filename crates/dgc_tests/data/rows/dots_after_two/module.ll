@@ -1,0 +1,8 @@
+@.str = private constant [4 x i8] c"%d\0A\00"
+declare i32 @fprintf(ptr, ptr, ...)
+@err = external global ptr
+define void @f(i32 %x) gc "shadow-stack" {
+entry:
+  %r = call i32 (ptr, ptr, ...) @fprintf(ptr @err, ptr @.str, i32 %x)
+  ret void
+}

@@ -1,0 +1,6 @@
+declare void @any(...)
+define void @f(i64 %x) {
+entry:
+  call void (...) @any(i64 %x, i64 2)
+  ret void
+}

@@ -1,0 +1,7 @@
+@.str = private constant [4 x i8] c"%d\0A\00"
+declare i32 @printf(ptr noundef, ...) #1
+define void @f(i32 %x) gc "shadow-stack" {
+entry:
+  %r = call i32 (ptr, ...) @printf(ptr @.str, ptr @.str, ptr getelementptr (i8, ptr @.str, i64 1), ptr null)
+  ret void
+}

@@ -1,0 +1,5 @@
+declare i32 @printf(ptr, ...)
+define void @f() {
+entry:
+  ret void
+}

@@ -1,0 +1,4 @@
+define void @f(i64 %x, ...) {
+entry:
+  ret void
+}

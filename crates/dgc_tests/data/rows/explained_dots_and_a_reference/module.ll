@@ -1,0 +1,8 @@
+%Node = type { i64 }
+@.str = private constant [4 x i8] c"%d\0A\00"
+declare i32 @printf(ptr noundef, ...) #1
+define void @f(ptr %n) gc "shadow-stack" {
+entry:
+  %r = call i32 (ptr, ...) @printf(ptr @.str, ptr %n)
+  ret void
+}

@@ -1,0 +1,5 @@
+@x = dso_local external global i32
+define void @f() {
+entry:
+  ret void
+}

@@ -1,0 +1,5 @@
+@x = external global ptr, align 8
+define void @f() {
+entry:
+  ret void
+}

@@ -1,0 +1,5 @@
+@llvm.gcroot = extern_weak global ptr
+define void @f() {
+entry:
+  ret void
+}

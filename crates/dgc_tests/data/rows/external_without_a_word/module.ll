@@ -1,0 +1,5 @@
+@x = external i32
+define void @f() {
+entry:
+  ret void
+}

@@ -1,0 +1,5 @@
+%File = type opaque
+define void @f() {
+entry:
+  ret void
+}

@@ -1,0 +1,8 @@
+%A = type { i64 }
+%B = type { i64, i64 }
+declare ptr @dg_alloc(i32)
+define void @f() gc "shadow-stack" {
+entry:
+  %x = call ptr @dg_alloc(i32 1)
+  ret void
+}

@@ -1,0 +1,9 @@
+%A = type { i64 }
+%B = type { i64, i64 }
+declare ptr @dg_alloc(i32)
+define void @f() gc "shadow-stack" {
+entry:
+  %x = call ptr @dg_alloc(i32 70)
+  %y = call ptr @dg_alloc(i32 0)
+  ret void
+}

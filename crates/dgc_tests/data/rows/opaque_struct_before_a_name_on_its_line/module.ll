@@ -1,0 +1,5 @@
+%File = type opaque %Node = type { i64 }
+define void @f() {
+entry:
+  ret void
+}

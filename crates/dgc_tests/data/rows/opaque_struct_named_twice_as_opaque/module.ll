@@ -1,0 +1,6 @@
+%File = type opaque
+%File = type opaque
+define void @f() {
+entry:
+  ret void
+}

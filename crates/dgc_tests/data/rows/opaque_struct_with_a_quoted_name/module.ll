@@ -1,0 +1,5 @@
+%"a b" = type opaque
+define void @f() {
+entry:
+  ret void
+}

@@ -1,0 +1,6 @@
+declare void @tick()
+define void @f() {
+entry:
+  call void () @tick()
+  ret void
+}
