@@ -1,4 +1,4 @@
-ghost use Rattle.std.specs.Prelude.{Some};
+ghost use Rattle.std.specs.Prelude.{◌≡◌, Some};
 ghost use Rattle.block_rules.specs.RuleNames.{rule_name};
 
 use std::fmt;
@@ -48,31 +48,40 @@ pub enum Rule {
     K20,
 }
 
+impl Rule {
+    /// The rule as it is printed.
+    pub fn name(self) -> &'static str
+        ensures { result.now ≡ rule_name self }
+    {
+        match self {
+            Rule::K1 => "K1",
+            Rule::K2 => "K2",
+            Rule::K3 => "K3",
+            Rule::K4 => "K4",
+            Rule::K5 => "K5",
+            Rule::K6 => "K6",
+            Rule::K7 => "K7",
+            Rule::K8 => "K8",
+            Rule::K9 => "K9",
+            Rule::K10 => "K10",
+            Rule::K11 => "K11",
+            Rule::K12 => "K12",
+            Rule::K13 => "K13",
+            Rule::K14 => "K14",
+            Rule::K15 => "K15",
+            Rule::K16 => "K16",
+            Rule::K17 => "K17",
+            Rule::K18 => "K18",
+            Rule::K19 => "K19",
+            Rule::K20 => "K20",
+        }
+    }
+}
+
 impl fmt::Display for Rule {
     ghost output = { λ rule. Some (rule_name rule) };
 
     fn fmt<W: fmt::Write>(&self, f: &mut fmt::Formatter<W>) -> fmt::Result {
-        match self {
-            Rule::K1 => write!(f, "K1"),
-            Rule::K2 => write!(f, "K2"),
-            Rule::K3 => write!(f, "K3"),
-            Rule::K4 => write!(f, "K4"),
-            Rule::K5 => write!(f, "K5"),
-            Rule::K6 => write!(f, "K6"),
-            Rule::K7 => write!(f, "K7"),
-            Rule::K8 => write!(f, "K8"),
-            Rule::K9 => write!(f, "K9"),
-            Rule::K10 => write!(f, "K10"),
-            Rule::K11 => write!(f, "K11"),
-            Rule::K12 => write!(f, "K12"),
-            Rule::K13 => write!(f, "K13"),
-            Rule::K14 => write!(f, "K14"),
-            Rule::K15 => write!(f, "K15"),
-            Rule::K16 => write!(f, "K16"),
-            Rule::K17 => write!(f, "K17"),
-            Rule::K18 => write!(f, "K18"),
-            Rule::K19 => write!(f, "K19"),
-            Rule::K20 => write!(f, "K20"),
-        }
+        write!(f, "{}", self.name())
     }
 }

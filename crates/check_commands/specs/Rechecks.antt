@@ -1,11 +1,10 @@
 -- The lines that a session is printed as while it is edited.
-use Rattle.std.specs.Prelude.{◌≡◌, ◌≢◌, ◌+◌, ◌++◌, ℕ, List, [], ◌∷◌, codes}
+use Rattle.std.specs.Prelude.{◌≡◌, ◌≢◌, ◌+◌, ◌++◌, ℕ, List, [], ◌∷◌, Option, Some, None, codes}
 use Rattle.std.specs.Fmt.{decimal}
+use Rattle.explain.specs.Codes.{name_of}
+use Rattle.explain.specs.declared.code.Code.{Code}
+use Rattle.fault_codes.specs.FaultCodes.{edit_code}
 use Rattle.ir_ast.specs.declared.module.Module.{Module}
-use Rattle.ir_text.specs.declared.read_fault.ReadFault.{ReadFault}
-use Rattle.ir_text.specs.declared.read_fault.ReadFault.TheVariants as read
-use Rattle.certificate.specs.declared.fault.CertFault.{CertFault}
-use Rattle.certificate.specs.declared.fault.CertFault.TheVariants as cert
 use Rattle.certs.specs.declared.certs.Certs.{Certs}
 use Rattle.recheck.specs.declared.edit.Edit.{Edit}
 use Rattle.block_rules.specs.declared.block_fault.Refusal.{Refusal}
@@ -18,41 +17,10 @@ use Rattle.reports.specs.Report.{Answer, line_of, no, no_memory, yes_again}
 
 -- ---- faults by their codes
 
--- the code of a fault in the text of a module
-abbrev pub read_code : ReadFault → List ℕ
-read_code (read.BadByte at) = codes "L1"
-read_code (read.Unfinished at) = codes "L2"
-read_code (read.Unexpected at) = codes "L3"
-read_code (read.DefinedTwice at) = codes "L4"
-read_code (read.NotDefined at) = codes "L5"
-read_code (read.OutOfRange at) = codes "L6"
-read_code (read.LeftOut at word) = codes "L7"
-read_code (read.Limit at) = codes "L8"
-read_code (read.WrongNumber at) = codes "L9"
-read_code (read.OtherPointer at) = codes "L10"
-read_code read.Memory = codes "memory"
-
--- the code of a fault in the text of certificates
-abbrev pub cert_code : CertFault → List ℕ
-cert_code (cert.Syntax at) = codes "C1"
-cert_code (cert.Version at) = codes "C2"
-cert_code (cert.UnknownName at) = codes "C3"
-cert_code (cert.ListedTwice at) = codes "C4"
-cert_code (cert.Missing func) = codes "C5"
-cert_code (cert.MissingBlock func block) = codes "C5"
-cert_code (cert.MissingWord layout word) = codes "C6"
-cert_code (cert.MissingGlobal symbol) = codes "C6"
-cert_code (cert.MissingRoot func slot) = codes "C6"
-cert_code cert.Memory = codes "memory"
-
--- the code of the fault for which an edit is refused
-abbrev pub edit_code : EditFault → List ℕ
-edit_code edit.NoFunction = codes "L5"
-edit_code edit.NoSection = codes "C3"
-edit_code edit.ShapesWanted = codes "C2"
-edit_code (edit.Code fault) = read_code fault
-edit_code (edit.Cert fault) = cert_code fault
-edit_code edit.Memory = codes "memory"
+-- the code of a fault, or what stands in its place where memory was refused
+abbrev pub code_text : Option Code → List ℕ
+code_text (Some code) = name_of code
+code_text None = codes "memory"
 
 -- ---- lines
 
@@ -62,7 +30,7 @@ accepted_text number rechecked verdict = decimal number ++ codes " rechecked " +
 
 -- the line of an edit that is refused
 abbrev pub refused_text : (number : ℕ) → EditFault → List ℕ
-refused_text number fault = decimal number ++ codes " refused " ++ edit_code fault ++ 10 ∷ []
+refused_text number fault = decimal number ++ codes " refused " ++ code_text (edit_code fault) ++ 10 ∷ []
 
 -- ---- sessions
 

@@ -2,7 +2,6 @@
 #![tactic(auto)]
 
 mod checking;
-mod codes;
 mod explaining;
 mod lower;
 mod making;

@@ -5,11 +5,12 @@ ghost use Rattle.certs.specs.Fits.{fits};
 ghost use Rattle.reports.specs.Said.{OfCertified, Says};
 ghost use Rattle.check_commands.specs.EditedFiles.{OfEdited, OfEditsFile, OfRechecked};
 ghost use Rattle.check_commands.specs.Rechecks as spec;
+ghost use Rattle.fault_codes.specs.FaultCodes.{edit_code};
 ghost use Rattle.check_commands.specs.Rechecks.{OfEdit, OfEdits, OfSession};
 ghost use Rattle.reports.specs.Report.{Answer, IsTold};
 ghost use Rattle.recheck.specs.declared.edit_fault.EditFault.TheVariants as edit_fault;
 
-use crate::codes::code_of_edit;
+use fault_codes::edit_code;
 use recheck::{Edit, EditFault, Session};
 use reports::{
     Certified, Files, Findings, Outputs, STATUS_NO, STATUS_YES, accepted_again, edits_in,
@@ -48,13 +49,23 @@ fn write_accepted<W: Write>(
     Ok(())
 }
 
+/// The code for which an edit is refused.
+fn code_of(fault: &EditFault) -> &'static str
+    ensures { result.now ≡ spec.code_text (edit_code fault.now) }
+{
+    match edit_code(fault) {
+        Some(code) => code.name(),
+        None => "memory",
+    }
+}
+
 /// Writes the line of an edit that was refused: `1 refused L5`. An edit for which memory ran out has no line.
 fn write_refused<W: Write>(number: usize, fault: &EditFault, lines: &mut W) -> io::Result<()>
     ensures { OnOk result ((fault.now ≢ edit_fault.Memory) × Appends (W.contents lines.old) (W.contents lines.new) (spec.refused_text number fault.now)) }
 {
     match fault {
         EditFault::Memory => Err(io::Error::from(AllocError)),
-        fault => writeln!(lines, "{number} refused {}", code_of_edit(fault)),
+        fault => writeln!(lines, "{number} refused {}", code_of(fault)),
     }
 }
 

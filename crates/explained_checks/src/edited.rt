@@ -2,6 +2,7 @@
 use crate::explained::put_in_program;
 use certificate::{CertFault, print_cert};
 use explain::Code;
+use fault_codes::{cert_code, edit_code};
 use fault_texts::{CheckedTexts, put_cert_fault, put_fault_of, put_read_fault};
 use ir_print::print;
 use messages::{Message, NamedText, Pen};
@@ -34,24 +35,9 @@ fn section_in(edit: &Edit) -> &[u8] {
     }
 }
 
-/// The code of a fault of a section.
-fn code_of(fault: &CertFault) -> Option<Code> {
-    match fault {
-        CertFault::Syntax(_) => Some(Code::C1),
-        CertFault::Version(_) => Some(Code::C2),
-        CertFault::UnknownName(_) => Some(Code::C3),
-        CertFault::ListedTwice(_) => Some(Code::C4),
-        CertFault::Missing(_) | CertFault::MissingBlock(..) => Some(Code::C5),
-        CertFault::MissingWord(..) | CertFault::MissingGlobal(_) | CertFault::MissingRoot(..) => {
-            Some(Code::C6)
-        }
-        CertFault::Memory => None,
-    }
-}
-
 /// Explains why the section that stands does not fit the code of an edit.
 fn put_kept_fault(pen: Pen, out: &mut Message, path: &str, fault: &CertFault) {
-    match code_of(fault) {
+    match cert_code(fault) {
         Some(code) => put_fault_of(
             pen,
             out,
@@ -110,17 +96,14 @@ fn put_cert_fault_of(
     put_section_fault(pen, out, session, texts, fault)
 }
 
-/// The code of an edit that is refused as a whole, what is found, and what mends it.
-fn whole_fault_of(fault: &EditFault) -> Option<(Code, &'static str, &'static str)> {
+/// What is found of an edit that is refused as a whole, and what mends it.
+fn found_of_edit(fault: &EditFault) -> (&'static str, &'static str) {
     match fault {
-        EditFault::NoFunction => Some((Code::L5, NO_SUCH_FUNCTION, "")),
-        EditFault::NoSection => Some((Code::C3, NO_SUCH_FUNCTION, "")),
-        EditFault::ShapesWanted => Some((
-            Code::C2,
+        EditFault::ShapesWanted => (
             "this code writes `ptr`, and the certificate has no shapes",
             "begin the certificate with `cert 2` and its shapes",
-        )),
-        _ => None,
+        ),
+        _ => (NO_SUCH_FUNCTION, ""),
     }
 }
 
@@ -140,8 +123,11 @@ fn put_edit_fault(
             put_read_fault(pen, out, NamedText { path, text }, wide, fault)
         }
         EditFault::Cert(fault) => put_cert_fault_of(pen, out, session, path, edit, fault),
-        fault => match whole_fault_of(fault) {
-            Some((code, found, mend)) => put_fault_of(pen, out, path, code, found, mend),
+        fault => match edit_code(fault) {
+            Some(code) => {
+                let (found, mend) = found_of_edit(fault);
+                put_fault_of(pen, out, path, code, found, mend)
+            }
             None => out.refuse(),
         },
     }

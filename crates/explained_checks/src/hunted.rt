@@ -4,7 +4,6 @@ ghost use Rattle.std.specs.Prelude.{OnOk};
 ghost use Rattle.reports.specs.Said.{GivesText};
 
 use block_rules::{BlockFault, Refusal, Rule};
-use explanations::name_of;
 use ir_ast::Module;
 use messages::Message;
 use module_check::{UnderCheck, fault_in_module};
@@ -32,7 +31,7 @@ fn put_refused(out: &mut Message, of_module: &Module, refusal: Refusal) {
         out.put_global(of_module, function.symbol, Blank::Kept);
     }
     out.put(" with this certificate by ");
-    out.put(name_of(refusal.rule));
+    out.put(refusal.rule.name());
     out.put(text_of(refusal.rule))
 }
 

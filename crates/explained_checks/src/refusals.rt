@@ -3,7 +3,7 @@ use crate::explained::{put_unread, texts_of_each};
 use answer_objects::{FileTexts, Finding, finding_of};
 use block_rules::{Detail, Refusal};
 use certs::Certs;
-use explanations::{FunctionPlaces, Texts, name_of, put_refusal};
+use explanations::{FunctionPlaces, Texts, put_refusal};
 use fault_texts::CheckedTexts;
 use ir_ast::{BlockId, Function, Module};
 use ir_tokens::{TEXT_LIMIT, read_tokens};
@@ -90,7 +90,7 @@ pub(crate) fn untold(
     certs: &Certs,
     refusal: &Refusal,
 ) -> Result<Finding, AllocError> {
-    let mut finding = Finding::of_code(alloc, name_of(refusal.rule))?;
+    let mut finding = Finding::of_code(alloc, refusal.rule.name())?;
     add_place(alloc, &mut finding, of_module, certs, refusal)?;
     Ok(finding)
 }
@@ -123,7 +123,7 @@ fn told(
     };
     let mut message = Message::in_parts(alloc);
     put_refusal(pen, &mut message, each, program, certs, *refusal);
-    let mut finding = told_in(alloc, name_of(refusal.rule), message, files)?;
+    let mut finding = told_in(alloc, refusal.rule.name(), message, files)?;
     add_place(alloc, &mut finding, program.module(), certs, refusal)?;
     Ok(finding)
 }

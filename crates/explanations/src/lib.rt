@@ -29,5 +29,5 @@ mod unknown;
 mod unrooted;
 mod write_barrier;
 
-pub use refusals::{Texts, name_of, put_refusal, store_changes};
+pub use refusals::{Texts, put_refusal, store_changes};
 pub use scenes::{FunctionPlaces, Source};

@@ -32,32 +32,6 @@ use scenes::{
 use shadow_stack::slots_of;
 use std::alloc::AllocError;
 
-/// The code of a rule.
-pub fn name_of(rule: Rule) -> &'static str {
-    match rule {
-        Rule::K1 => "K1",
-        Rule::K2 => "K2",
-        Rule::K3 => "K3",
-        Rule::K4 => "K4",
-        Rule::K5 => "K5",
-        Rule::K6 => "K6",
-        Rule::K7 => "K7",
-        Rule::K8 => "K8",
-        Rule::K9 => "K9",
-        Rule::K10 => "K10",
-        Rule::K11 => "K11",
-        Rule::K12 => "K12",
-        Rule::K13 => "K13",
-        Rule::K14 => "K14",
-        Rule::K15 => "K15",
-        Rule::K16 => "K16",
-        Rule::K17 => "K17",
-        Rule::K18 => "K18",
-        Rule::K19 => "K19",
-        Rule::K20 => "K20",
-    }
-}
-
 /// The place and the code: `plain.ll:23:7: K6: `.
 fn put_head(out: &mut Message, scene: &Scene) {
     out.begin_ink(scene.pen.look, Ink::Place);
@@ -66,8 +40,7 @@ fn put_head(out: &mut Message, scene: &Scene) {
     out.end_ink(scene.pen.look);
     out.put(": ");
     out.begin_part(Part::Code);
-    let name = name_of(scene.refusal.rule);
-    out.put_inked(scene.pen.look, Ink::Fault, name);
+    out.put_inked(scene.pen.look, Ink::Fault, scene.refusal.rule.name());
     out.begin_part(Part::Between);
     out.put(": ");
     out.begin_part(Part::Sentence)

@@ -17,6 +17,7 @@ use crate::site::put_word;
 use crate::unrooted::put_unrooted;
 use certificate::CertFault;
 use explain::Code;
+use fault_codes::{cert_code, cert_place};
 use ir_ast::{Function, Module, SymbolId, ValueId};
 use ir_tokens::Position;
 use layout::LayoutFault;
@@ -347,17 +348,6 @@ fn put_no_shape(
     out.put(" ref L` in front of the sections, where L is the layout to which it refers\n")
 }
 
-/// The place of a fault of a certificate, with its code.
-fn cert_place_of(fault: CertFault) -> Option<(Position, Code)> {
-    match fault {
-        CertFault::Syntax(position) => Some((position, Code::C1)),
-        CertFault::Version(position) => Some((position, Code::C2)),
-        CertFault::UnknownName(position) => Some((position, Code::C3)),
-        CertFault::ListedTwice(position) => Some((position, Code::C4)),
-        _ => None,
-    }
-}
-
 /// What is told of what a certificate lacks.
 fn put_lacking(
     pen: Pen,
@@ -387,8 +377,8 @@ pub fn put_cert_fault<'a>(
     of_module: &'a Module,
     fault: CertFault,
 ) {
-    match cert_place_of(fault) {
-        Some((position, code)) => put_placed(
+    match (cert_place(&fault), cert_code(&fault)) {
+        (Some(position), Some(code)) => put_placed(
             pen,
             out,
             PlacedFault {
@@ -398,6 +388,6 @@ pub fn put_cert_fault<'a>(
                 code,
             },
         ),
-        None => put_lacking(pen, out, texts.of_certs, of_module, fault),
+        _ => put_lacking(pen, out, texts.of_certs, of_module, fault),
     }
 }

@@ -7,6 +7,7 @@ use crate::offers::offer_declare;
 use crate::sentences::{MARK, put_at_token, put_bad_byte, put_limit, put_unfinished};
 use crate::site::{Site, put_quoted};
 use explain::Code;
+use fault_codes::{read_code, read_place};
 use ir_ast::Runtime;
 use ir_text::ReadFault;
 use ir_tokens::{Kind, Position, Token};
@@ -156,23 +157,6 @@ fn put_left_out(
     put_quoted(out, word);
     out.put(" begins a form that is not read; docs/TEXT.md lists these\n");
     put_told(out, pen, Part::Mend, advice_on(word, wide))
-}
-
-/// The place of a fault of a module's text, with its code.
-fn place_of(fault: &ReadFault) -> Option<(Position, Code)> {
-    match fault {
-        ReadFault::BadByte(place) => Some((*place, Code::L1)),
-        ReadFault::Unfinished(place) => Some((*place, Code::L2)),
-        ReadFault::Unexpected(place) => Some((*place, Code::L3)),
-        ReadFault::DefinedTwice(place) => Some((*place, Code::L4)),
-        ReadFault::NotDefined(place) => Some((*place, Code::L5)),
-        ReadFault::OutOfRange(place) => Some((*place, Code::L6)),
-        ReadFault::LeftOut { place, .. } => Some((*place, Code::L7)),
-        ReadFault::Limit(place) => Some((*place, Code::L8)),
-        ReadFault::WrongNumber(place) => Some((*place, Code::L9)),
-        ReadFault::OtherPointer(place) => Some((*place, Code::L10)),
-        ReadFault::Memory => None,
-    }
 }
 
 /// What is said besides, by the code, of a text in which the wide forms may stand or not.
@@ -483,8 +467,8 @@ pub fn put_read_fault(
     if let ReadFault::LeftOut { place, word } = fault {
         return put_left_out(pen, out, named, wide, *place, word.as_slice());
     }
-    match place_of(fault) {
-        Some((position, code)) => put_placed(
+    match (read_place(fault), read_code(fault)) {
+        (Some(position), Some(code)) => put_placed(
             pen,
             out,
             TextFault {
@@ -494,7 +478,7 @@ pub fn put_read_fault(
                 code,
             },
         ),
-        None => out.refuse(),
+        _ => out.refuse(),
     }
 }
 

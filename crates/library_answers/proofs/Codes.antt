@@ -2,6 +2,10 @@
 use Rattle.std.proofs.Common.{◌≡◌, ◌∙◌, ◌+◌, ◌<◌, ◌≤◌, ◌/◌, ◌%◌, ◌^◌, ◌++◌, ◌∷◌, [], ℕ, List, inr, sym, ap, ap₂}
 use Rattle.std.specs.Fmt.{decimal}
 use Rattle.std.proofs.lemmas.Fmt.{decimal_digit, decimal_step}
+use Rattle.ir_text.specs.declared.read_fault.ReadFault.{ReadFault}
+use Rattle.certificate.specs.declared.fault.CertFault.{CertFault}
+use Rattle.fault_codes.specs.FaultCodes.{cert_code, read_code}
+use Rattle.check_commands.specs.Rechecks.{code_text}
 use Rattle.library_answers.specs.declared.place.Place.{Place}
 use Rattle.library_answers.specs.Told.{IsCode}
 
@@ -18,3 +22,11 @@ two_digits letter tens n low high by_ten small =
 -- a place has the code of its letter and its number
 pub code_told : (code : List ℕ) (letter number : ℕ) (p : Place) → code ≡ letter ∷ decimal number → p.letter ≡ letter → p.number ≡ number → IsCode code p
 code_told code letter number p is of_letter of_number = inr (is ∙ sym (ap₂ (λ (a b : ℕ). a ∷ decimal b) of_letter of_number))
+
+-- the code of a fault of a module's text, as it is printed
+abbrev pub read_text : ReadFault → List ℕ
+read_text fault = code_text (read_code fault)
+
+-- the code of a fault of a certificate's text, as it is printed
+abbrev pub cert_text : CertFault → List ℕ
+cert_text fault = code_text (cert_code fault)

@@ -56,14 +56,14 @@ of_cert m cert.Memory = three
 
 of_edits : (fault : CertFault) → 1 < (of_edits_fault fault).status
 of_edits (cert.Syntax at) = two
-of_edits (cert.Version at) = three
-of_edits (cert.UnknownName at) = three
-of_edits (cert.ListedTwice at) = three
-of_edits (cert.Missing func) = three
-of_edits (cert.MissingBlock func block) = three
-of_edits (cert.MissingWord layout word) = three
-of_edits (cert.MissingGlobal symbol) = three
-of_edits (cert.MissingRoot func slot) = three
+of_edits (cert.Version at) = two
+of_edits (cert.UnknownName at) = two
+of_edits (cert.ListedTwice at) = two
+of_edits (cert.Missing func) = two
+of_edits (cert.MissingBlock func block) = two
+of_edits (cert.MissingWord layout word) = two
+of_edits (cert.MissingGlobal symbol) = two
+of_edits (cert.MissingRoot func slot) = two
 of_edits cert.Memory = three
 
 pub of_layouts : (m : Module) (fault : LayoutFault) → 1 < (of_layout_fault m fault).status

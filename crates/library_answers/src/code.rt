@@ -1,6 +1,7 @@
 //! The codes of faults, and where they are.
 ghost use Rattle.std.specs.Prelude.{◌≡◌};
-ghost use Rattle.check_commands.specs.Rechecks.{cert_code, read_code};
+ghost use Rattle.check_commands.specs.Rechecks.{code_text};
+ghost use Rattle.fault_codes.specs.FaultCodes.{cert_code, read_code};
 ghost use Rattle.library_answers.specs.Told.{IsCode, IsNoInstruction};
 
 use crate::place::Place;
@@ -49,7 +50,7 @@ fn coded_at(letter: u8, number: u32, at: Position) -> Place
 
 /// The code of a fault of a module's text, and where it is.
 fn place_of_module(fault: &ReadFault) -> Place
-    ensures code { IsCode (read_code fault.now) result }
+    ensures code { IsCode (code_text (read_code fault.now)) result }
     ensures instruction { IsNoInstruction result }
 {
     match fault {
@@ -69,7 +70,7 @@ fn place_of_module(fault: &ReadFault) -> Place
 
 /// The code of a fault of a certificate's text, and where it is.
 fn place_of_certificate(fault: CertFault) -> Place
-    ensures code { IsCode (cert_code fault) result }
+    ensures code { IsCode (code_text (cert_code fault)) result }
     ensures instruction { IsNoInstruction result }
 {
     match fault {

@@ -4,6 +4,10 @@ use Rattle.std.specs.List.{flat_map}
 use Rattle.std.specs.Fmt.{decimal}
 use Rattle.std.specs.Io.KnownBytes.{Appends}
 use Rattle.ir_ast.specs.declared.module.Module.{Module}
+use Rattle.explain.specs.Codes.{name_of}
+use Rattle.explain.specs.declared.code.Code.{Code}
+use Rattle.fault_codes.specs.FaultCodes.{cert_code, layout_code, read_code, trace_code}
+use Rattle.fault_codes.specs.FaultPlaces.{cert_place, read_place, trace_place}
 use Rattle.ir_tokens.specs.declared.position.Position.{Position}
 use Rattle.ir_text.specs.declared.read_fault.ReadFault.{ReadFault}
 use Rattle.ir_text.specs.declared.read_fault.ReadFault.TheVariants as read
@@ -13,7 +17,6 @@ use Rattle.certificate.specs.Print.{line_shown}
 use Rattle.certificate.specs.declared.fault.CertFault.{CertFault}
 use Rattle.certificate.specs.declared.fault.CertFault.TheVariants as cert
 use Rattle.trace_text.specs.declared.fault.TraceFault.{TraceFault}
-use Rattle.trace_text.specs.declared.fault.TraceFault.TheVariants as trace
 use Rattle.certs.specs.declared.section.Section.{Section}
 use Rattle.block_rules.specs.declared.block_fault.Detail.{Detail}
 use Rattle.block_rules.specs.declared.block_fault.Refusal.{Refusal}
@@ -70,9 +73,10 @@ IsTold old new status answer = (status ≡ answer.status) × Appends old new ans
 abbrev pub unread : (line : List ℕ) → Answer
 unread line = record { text = codes "error " ++ line ++ 10 ∷ []; status = 2 }
 
--- a fault with its place
-abbrev pub fault_at : (code : List ℕ) → Position → Answer
-fault_at code at = unread (code ++ 32 ∷ decimal at.line ++ 58 ∷ decimal at.column)
+-- where a fault is, after a blank, if it is at a place of its text
+abbrev pub place_told : Option Position → List ℕ
+place_told None = []
+place_told (Some at) = 32 ∷ decimal at.line ++ 58 ∷ decimal at.column
 
 -- out of memory
 abbrev pub no_memory : Answer
@@ -82,40 +86,42 @@ no_memory = record { text = codes "error memory" ++ 10 ∷ []; status = 3 }
 abbrev pub no_file : (path : List ℕ) → Answer
 no_file path = record { text = codes "error file " ++ path ++ 10 ∷ []; status = 4 }
 
+-- a fault with its code, its place if it has one, and what else is told of it; where it has no code, memory was refused
+abbrev pub of_fault : Option Code → Option Position → (told : List ℕ) → Answer
+of_fault None at told = no_memory
+of_fault (Some code) at told = unread (name_of code ++ place_told at ++ told)
+
+-- the word at which a form begins that is left out
+abbrev pub left_out_word : ReadFault → List ℕ
+left_out_word (read.LeftOut at word) = 32 ∷ word
+left_out_word _ = []
+
 -- a text that is no module
 abbrev pub of_read_fault : ReadFault → Answer
-of_read_fault read.Memory = no_memory
-of_read_fault (read.BadByte at) = fault_at (codes "L1") at
-of_read_fault (read.Unfinished at) = fault_at (codes "L2") at
-of_read_fault (read.Unexpected at) = fault_at (codes "L3") at
-of_read_fault (read.DefinedTwice at) = fault_at (codes "L4") at
-of_read_fault (read.NotDefined at) = fault_at (codes "L5") at
-of_read_fault (read.OutOfRange at) = fault_at (codes "L6") at
-of_read_fault (read.LeftOut at word) = unread (codes "L7 " ++ decimal at.line ++ 58 ∷ decimal at.column ++ 32 ∷ word)
-of_read_fault (read.Limit at) = fault_at (codes "L8") at
-of_read_fault (read.WrongNumber at) = fault_at (codes "L9") at
-of_read_fault (read.OtherPointer at) = fault_at (codes "L10") at
+of_read_fault fault = of_fault (read_code fault) (read_place fault) (left_out_word fault)
+
+-- what certificates lack
+abbrev pub lacking : Module → CertFault → List ℕ
+lacking m (cert.Missing func) = codes " @" ++ found_name (name_of_function m func)
+lacking m (cert.MissingBlock func block) = codes " @" ++ found_name (name_of_function m func) ++ codes " %" ++ found_key (name_of_block m func block)
+lacking m (cert.MissingWord layout word) = 32 ∷ found_name (name_of_struct m layout) ++ 32 ∷ decimal word
+lacking m (cert.MissingGlobal symbol) = codes " @" ++ found_name (slice_get m.symbols symbol)
+lacking m (cert.MissingRoot func slot) = codes " @" ++ found_name (name_of_function m func) ++ codes " %" ++ found_key (name_of_local m func slot)
+lacking m _ = []
 
 -- a text that is no certificate of the module
 abbrev pub of_cert_fault : Module → CertFault → Answer
-of_cert_fault m (cert.Syntax at) = fault_at (codes "C1") at
-of_cert_fault m (cert.Version at) = fault_at (codes "C2") at
-of_cert_fault m (cert.UnknownName at) = fault_at (codes "C3") at
-of_cert_fault m (cert.ListedTwice at) = fault_at (codes "C4") at
-of_cert_fault m (cert.Missing func) = unread (codes "C5 @" ++ found_name (name_of_function m func))
-of_cert_fault m (cert.MissingBlock func block) = unread (codes "C5 @" ++ found_name (name_of_function m func) ++ codes " %" ++ found_key (name_of_block m func block))
-of_cert_fault m (cert.MissingWord layout word) = unread (codes "C6 " ++ found_name (name_of_struct m layout) ++ 32 ∷ decimal word)
-of_cert_fault m (cert.MissingGlobal symbol) = unread (codes "C6 @" ++ found_name (slice_get m.symbols symbol))
-of_cert_fault m (cert.MissingRoot func slot) = unread (codes "C6 @" ++ found_name (name_of_function m func) ++ codes " %" ++ found_key (name_of_local m func slot))
-of_cert_fault m cert.Memory = no_memory
+of_cert_fault m fault = of_fault (cert_code fault) (cert_place fault) (lacking m fault)
+
+-- the struct that has no layout
+abbrev pub without_layout : Module → LayoutFault → List ℕ
+without_layout m (layout.HoldsItself number) = 32 ∷ found_name (name_of_struct m number)
+without_layout m (layout.TooManyWords number) = 32 ∷ found_name (name_of_struct m number)
+without_layout m _ = []
 
 -- a module that has no layouts
 abbrev pub of_layout_fault : Module → LayoutFault → Answer
-of_layout_fault m (layout.HoldsItself number) = unread (codes "Y1 " ++ found_name (name_of_struct m number))
-of_layout_fault m (layout.TooManyWords number) = unread (codes "Y2 " ++ found_name (name_of_struct m number))
-of_layout_fault m (layout.NoSuchLayout number) = unread (codes "Y3")
-of_layout_fault m layout.ShapesWanted = unread (codes "Y5")
-of_layout_fault m layout.Memory = no_memory
+of_layout_fault m fault = of_fault (layout_code fault) None (without_layout m fault)
 
 -- why no instruction of a module is checked
 abbrev pub of_layout_reason : Module → Reason → Answer
@@ -124,16 +130,11 @@ of_layout_reason m _ = no_memory
 
 -- a text that is no text of edits; its one fault is C1
 abbrev pub of_edits_fault : CertFault → Answer
-of_edits_fault (cert.Syntax at) = fault_at (codes "C1") at
-of_edits_fault _ = no_memory
+of_edits_fault fault = of_fault (cert_code fault) (cert_place fault) []
 
 -- a text that is no trace of the program
 abbrev pub of_trace_fault : TraceFault → Answer
-of_trace_fault (trace.Syntax at) = fault_at (codes "P1") at
-of_trace_fault (trace.NoThread at) = fault_at (codes "P2") at
-of_trace_fault (trace.TooManySteps at) = fault_at (codes "P3") at
-of_trace_fault trace.TooManyCells = unread (codes "Y4")
-of_trace_fault trace.Memory = no_memory
+of_trace_fault fault = of_fault (trace_code fault) (trace_place fault) []
 
 -- ---- the check
 

@@ -1,8 +1,8 @@
-//! How faults in a module, its certificates and edits are printed, each a line that goes to the standard error.
-ghost use Rattle.std.specs.Prelude.{◌++◌, IfOk};
+//! How faults of texts and layouts are printed, each a line that goes to the standard error.
+ghost use Rattle.std.specs.Prelude.{◌≡◌, ◌++◌, [], ◌∷◌, IfOk, OnOk, codes};
+ghost use Rattle.std.specs.Io.KnownBytes.{Appends};
 ghost use Rattle.std.specs.Option.{option_copied};
-ghost use Rattle.certificate.specs.declared.fault.CertFault.TheVariants as cert;
-ghost use Rattle.ir_text.specs.declared.read_fault.ReadFault.TheVariants as read;
+ghost use Rattle.explain.specs.Codes.{name_of};
 ghost use Rattle.reports.specs.Report as spec;
 ghost use Rattle.reports.specs.Report.{IsTold};
 
@@ -12,39 +12,31 @@ use crate::found::{
 };
 use crate::status::{STATUS_MEMORY, STATUS_UNREADABLE, STATUS_USAGE};
 use certificate::CertFault;
+use explain::Code;
+use fault_codes::{cert_code, cert_place, layout_code, read_code, read_place, trace_code, trace_place};
 use ir_ast::Module;
 use ir_text::ReadFault;
 use ir_tokens::Position;
 use layout::LayoutFault;
 use std::io;
 use std::io::Write;
+use trace_text::TraceFault;
 
-/// A fault with its place: `error L4 23:13`.
-pub fn at_place<W: Write>(err: &mut W, code: &str, position: Position) -> io::Result<u8>
-    ensures { IfOk result (λ status. IsTold (W.contents err.old) (W.contents err.new) status (spec.fault_at code.now position)) }
+/// Begins the line of a fault, with its place if it has one: `error L4 23:13`, `error C5`.
+fn begin_fault<W: Write>(err: &mut W, code: Code, place: Option<Position>) -> io::Result<()>
+    ensures { OnOk result (Appends (W.contents err.old) (W.contents err.new) (codes "error " ++ name_of code ++ spec.place_told place)) }
 {
-    let Position { line, column } = position;
-    writeln!(err, "error {code} {line}:{column}")?;
-    Ok(STATUS_UNREADABLE)
+    write!(err, "error {}", code.name())?;
+    match place {
+        Some(Position { line, column }) => write!(err, " {line}:{column}"),
+        None => Ok(()),
+    }
 }
 
-/// A form that is left out, with the word at which it begins: `error L7 10:8 sdiv`.
-fn left_out<W: Write>(err: &mut W, position: Position, word: &[u8]) -> io::Result<u8>
-    ensures { IfOk result (λ status. IsTold (W.contents err.old) (W.contents err.new) status (spec.of_read_fault (read.LeftOut position word.now))) }
+/// Ends the line of a fault.
+fn end_fault<W: Write>(err: &mut W) -> io::Result<u8>
+    ensures { IfOk result (λ status. (status ≡ 2) × Appends (W.contents err.old) (W.contents err.new) (10 ∷ [])) }
 {
-    let Position { line, column } = position;
-    write!(err, "error L7 {line}:{column} ")?;
-    err.write_all(word)?;
-    writeln!(err, "")?;
-    Ok(STATUS_UNREADABLE)
-}
-
-/// Something that is not as it must be, with its name: `error Y2 Node`, `error C5 @f`.
-fn of_name<W: Write>(err: &mut W, before: &str, name: Option<&[u8]>) -> io::Result<u8>
-    ensures { IfOk result (λ status. IsTold (W.contents err.old) (W.contents err.new) status (spec.unread (before.now ++ spec.found_name (option_copied name.entry)))) }
-{
-    write!(err, "error {before}")?;
-    write_found_name(err, name)?;
     writeln!(err, "")?;
     Ok(STATUS_UNREADABLE)
 }
@@ -65,89 +57,107 @@ pub fn no_file<W: Write>(err: &mut W, path: &str) -> io::Result<u8>
     Ok(STATUS_USAGE)
 }
 
+/// The word at which a form begins that is left out: the last one of `error L7 10:8 sdiv`.
+fn write_left_out<W: Write>(err: &mut W, fault: &ReadFault) -> io::Result<()>
+    ensures { OnOk result (Appends (W.contents err.old) (W.contents err.new) (spec.left_out_word fault.now)) }
+{
+    match fault {
+        ReadFault::LeftOut { word, .. } => {
+            write!(err, " ")?;
+            err.write_all(word.as_slice())
+        }
+        _ => Ok(()),
+    }
+}
+
 /// A text that is no module.
 pub fn no_module<W: Write>(err: &mut W, fault: &ReadFault) -> io::Result<u8>
     ensures { IfOk result (λ status. IsTold (W.contents err.old) (W.contents err.new) status (spec.of_read_fault fault.now)) }
 {
-    match fault {
-        ReadFault::BadByte(place) => at_place(err, "L1", *place),
-        ReadFault::Unfinished(place) => at_place(err, "L2", *place),
-        ReadFault::Unexpected(place) => at_place(err, "L3", *place),
-        ReadFault::DefinedTwice(place) => at_place(err, "L4", *place),
-        ReadFault::NotDefined(place) => at_place(err, "L5", *place),
-        ReadFault::OutOfRange(place) => at_place(err, "L6", *place),
-        ReadFault::LeftOut { place, word } => left_out(err, *place, word.as_slice()),
-        ReadFault::Limit(place) => at_place(err, "L8", *place),
-        ReadFault::WrongNumber(place) => at_place(err, "L9", *place),
-        ReadFault::OtherPointer(place) => at_place(err, "L10", *place),
-        ReadFault::Memory => memory(err),
+    match read_code(fault) {
+        Some(code) => {
+            begin_fault(err, code, read_place(fault))?;
+            write_left_out(err, fault)?;
+            end_fault(err)
+        }
+        None => memory(err),
     }
 }
 
-/// A block without its section: `error C5 @f %b`.
-fn missing_block<W: Write>(
+/// The name of a function and the key of something in it: ` @f %b`.
+fn write_of_function<W: Write>(
     err: &mut W,
-    of_module: &Module,
-    function: usize,
-    block: usize,
-) -> io::Result<u8>
-    ensures { IfOk result (λ status. IsTold (W.contents err.old) (W.contents err.new) status (spec.of_cert_fault of_module.now (cert.MissingBlock function block))) }
+    function: Option<&[u8]>,
+    key: Option<&[u8]>,
+) -> io::Result<()>
+    ensures { OnOk result (Appends (W.contents err.old) (W.contents err.new) (codes " @" ++ spec.found_name (option_copied function.entry) ++ codes " %" ++ spec.found_key (option_copied key.entry))) }
 {
-    write!(err, "error C5 @")?;
-    write_found_name(err, name_of_function(of_module, function))?;
+    write!(err, " @")?;
+    write_found_name(err, function)?;
     write!(err, " %")?;
-    write_found_local(err, name_of_block_at(of_module, function, block))?;
-    writeln!(err, "")?;
-    Ok(STATUS_UNREADABLE)
+    write_found_local(err, key)
 }
 
-/// A word without its shape: `error C6 Node 1`.
-fn missing_word<W: Write>(
-    err: &mut W,
-    of_module: &Module,
-    layout: usize,
-    word: usize,
-) -> io::Result<u8>
-    ensures { IfOk result (λ status. IsTold (W.contents err.old) (W.contents err.new) status (spec.of_cert_fault of_module.now (cert.MissingWord layout word))) }
+/// What certificates lack: the last words of `error C5 @f %b` and of `error C6 Node 1`.
+fn write_lacking<W: Write>(err: &mut W, of_module: &Module, fault: &CertFault) -> io::Result<()>
+    ensures { OnOk result (Appends (W.contents err.old) (W.contents err.new) (spec.lacking of_module.now fault.now)) }
 {
-    write!(err, "error C6 ")?;
-    write_found_name(err, name_of_struct(of_module, layout))?;
-    writeln!(err, " {word}")?;
-    Ok(STATUS_UNREADABLE)
-}
-
-/// A root slot without its shape: `error C6 @f %s`.
-fn missing_root<W: Write>(
-    err: &mut W,
-    of_module: &Module,
-    function: usize,
-    slot: usize,
-) -> io::Result<u8>
-    ensures { IfOk result (λ status. IsTold (W.contents err.old) (W.contents err.new) status (spec.of_cert_fault of_module.now (cert.MissingRoot function slot))) }
-{
-    write!(err, "error C6 @")?;
-    write_found_name(err, name_of_function(of_module, function))?;
-    write!(err, " %")?;
-    write_found_local(err, name_of_local(of_module, function, slot))?;
-    writeln!(err, "")?;
-    Ok(STATUS_UNREADABLE)
+    match *fault {
+        CertFault::Missing(function) => {
+            write!(err, " @")?;
+            write_found_name(err, name_of_function(of_module, function))
+        }
+        CertFault::MissingBlock(function, block) => write_of_function(
+            err,
+            name_of_function(of_module, function),
+            name_of_block_at(of_module, function, block),
+        ),
+        CertFault::MissingWord(layout, word) => {
+            write!(err, " ")?;
+            write_found_name(err, name_of_struct(of_module, layout))?;
+            write!(err, " {word}")
+        }
+        CertFault::MissingGlobal(symbol) => {
+            write!(err, " @")?;
+            write_found_name(err, of_module.symbols.get(symbol))
+        }
+        CertFault::MissingRoot(function, slot) => write_of_function(
+            err,
+            name_of_function(of_module, function),
+            name_of_local(of_module, function, slot),
+        ),
+        _ => Ok(()),
+    }
 }
 
 /// A text that is no certificate of the module.
 pub fn no_certificate<W: Write>(err: &mut W, of_module: &Module, fault: CertFault) -> io::Result<u8>
     ensures { IfOk result (λ status. IsTold (W.contents err.old) (W.contents err.new) status (spec.of_cert_fault of_module.now fault)) }
 {
-    match fault {
-        CertFault::Syntax(position) => at_place(err, "C1", position),
-        CertFault::Version(position) => at_place(err, "C2", position),
-        CertFault::UnknownName(position) => at_place(err, "C3", position),
-        CertFault::ListedTwice(position) => at_place(err, "C4", position),
-        CertFault::Missing(number) => of_name(err, "C5 @", name_of_function(of_module, number)),
-        CertFault::MissingBlock(function, block) => missing_block(err, of_module, function, block),
-        CertFault::MissingWord(layout, word) => missing_word(err, of_module, layout, word),
-        CertFault::MissingGlobal(symbol) => of_name(err, "C6 @", of_module.symbols.get(symbol)),
-        CertFault::MissingRoot(function, slot) => missing_root(err, of_module, function, slot),
-        CertFault::Memory => memory(err),
+    match cert_code(&fault) {
+        Some(code) => {
+            begin_fault(err, code, cert_place(&fault))?;
+            write_lacking(err, of_module, &fault)?;
+            end_fault(err)
+        }
+        None => memory(err),
+    }
+}
+
+/// The struct that has no layout.
+fn write_without_layout<W: Write>(
+    err: &mut W,
+    of_module: &Module,
+    fault: &LayoutFault,
+) -> io::Result<()>
+    ensures { OnOk result (Appends (W.contents err.old) (W.contents err.new) (spec.without_layout of_module.now fault.now)) }
+{
+    match *fault {
+        LayoutFault::HoldsItself(number) | LayoutFault::TooManyWords(number) => {
+            write!(err, " ")?;
+            write_found_name(err, name_of_struct(of_module, number))
+        }
+        _ => Ok(()),
     }
 }
 
@@ -155,18 +165,13 @@ pub fn no_certificate<W: Write>(err: &mut W, of_module: &Module, fault: CertFaul
 pub fn no_layouts<W: Write>(err: &mut W, of_module: &Module, fault: LayoutFault) -> io::Result<u8>
     ensures { IfOk result (λ status. IsTold (W.contents err.old) (W.contents err.new) status (spec.of_layout_fault of_module.now fault)) }
 {
-    match fault {
-        LayoutFault::HoldsItself(number) => of_name(err, "Y1 ", name_of_struct(of_module, number)),
-        LayoutFault::TooManyWords(number) => of_name(err, "Y2 ", name_of_struct(of_module, number)),
-        LayoutFault::NoSuchLayout(_) => {
-            writeln!(err, "error Y3")?;
-            Ok(STATUS_UNREADABLE)
+    match layout_code(&fault) {
+        Some(code) => {
+            begin_fault(err, code, None)?;
+            write_without_layout(err, of_module, &fault)?;
+            end_fault(err)
         }
-        LayoutFault::ShapesWanted => {
-            writeln!(err, "error Y5")?;
-            Ok(STATUS_UNREADABLE)
-        }
-        LayoutFault::Memory => memory(err),
+        None => memory(err),
     }
 }
 
@@ -174,8 +179,24 @@ pub fn no_layouts<W: Write>(err: &mut W, of_module: &Module, fault: LayoutFault)
 pub fn no_edits<W: Write>(err: &mut W, fault: CertFault) -> io::Result<u8>
     ensures { IfOk result (λ status. IsTold (W.contents err.old) (W.contents err.new) status (spec.of_edits_fault fault)) }
 {
-    match fault {
-        CertFault::Syntax(position) => at_place(err, "C1", position),
-        _ => memory(err),
+    match cert_code(&fault) {
+        Some(code) => {
+            begin_fault(err, code, cert_place(&fault))?;
+            end_fault(err)
+        }
+        None => memory(err),
+    }
+}
+
+/// A text that is no trace of the program.
+pub fn no_trace<W: Write>(err: &mut W, fault: TraceFault) -> io::Result<u8>
+    ensures { IfOk result (λ status. IsTold (W.contents err.old) (W.contents err.new) status (spec.of_trace_fault fault)) }
+{
+    match trace_code(&fault) {
+        Some(code) => {
+            begin_fault(err, code, trace_place(&fault))?;
+            end_fault(err)
+        }
+        None => memory(err),
     }
 }

@@ -1,0 +1,2 @@
+pub mod FaultCodes
+pub mod FaultPlaces
