@@ -5,7 +5,7 @@ use Rattle.block_rules.specs.Calls.{after_alloc_call, after_defined, after_integ
 use Rattle.block_rules.specs.Integers.{define_number}
 use Rattle.block_rules.specs.Operands.{is_no_opaque_slot, is_null, known_fits, known_of, slot_named}
 use Rattle.block_rules.specs.Promises.{callee_mark, given_by, promised_in, promises_in, show_promises}
-use Rattle.block_rules.specs.TypeKinds.{is_integer, is_pointer, is_reference}
+use Rattle.type_kinds.specs.TypeKinds.{is_integer, is_pointer, is_reference}
 use Rattle.block_rules.specs.declared.rule.Rule.TheVariants.{K1, K10, K12, K13, K17, K18, K2, K3, K9}
 use Rattle.block_rules.specs.declared.instr_context.InstrContext.{InstrContext}
 use Rattle.certs.specs.declared.section.Promise.{Promise}

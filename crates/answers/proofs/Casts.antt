@@ -3,8 +3,9 @@ use Rattle.std.specs.Prelude.{List, None, Option, Some, false, refl, ℕ, ◌&&�
 use Rattle.block_rules.specs.Casts.{after_cast, cast_constant, cast_number, casts_base, casts_constant, casts_global, casts_known, casts_local, casts_null, casts_operand, casts_other, casts_slot, casts_to, casts_words, layout_of_null, may_cast}
 use Rattle.block_rules.specs.Integers.{define_number}
 use Rattle.block_rules.specs.Operands.{known_of}
-use Rattle.block_rules.specs.Places.{define_held, layout_of_word}
-use Rattle.block_rules.specs.TypeKinds.{fits_layout, is_bits, may_be_reference}
+use Rattle.type_kinds.specs.WantedWords.{layout_of_word}
+use Rattle.block_rules.specs.Places.{define_held}
+use Rattle.type_kinds.specs.TypeKinds.{fits_layout, is_bits, may_be_reference}
 use Rattle.fact_tables.specs.Rows.{known_at}
 use Rattle.facts.specs.Facts.{FactSet}
 use Rattle.fact_tables.specs.declared.known.Known.{Known}

@@ -2,7 +2,7 @@
 use Rattle.std.specs.List.{list_any, take_while}
 use Rattle.std.specs.Prelude.{List, [], false, length, nat_lt, not, refl, true, ◌==◌, ◌||◌, ◌∷◌, ◌≡◌}
 use Rattle.block_rules.specs.InstrContext.{begins_collected, block_moves, body_of, function_moves, head_in, head_of, instruction_moves, is_collected_type, is_gcroot, is_head_instruction, is_of_head, is_shadow_stack, keeps_shadow_stack, memory_moves, moves_reference, phi_moves, phis_of, instr_context}
-use Rattle.block_rules.specs.TypeKinds.{may_be_reference}
+use Rattle.type_kinds.specs.TypeKinds.{may_be_reference}
 use Rattle.ir_ast.specs.declared.choices.Phi.{Phi}
 use Rattle.ir_ast.specs.declared.function.Function.{Function}
 use Rattle.ir_ast.specs.declared.instr.Instr.{Instr}

@@ -1,7 +1,7 @@
 -- What a written type is to the rules, and what they ask of an operand, does not depend on functions.
 use Rattle.std.specs.Prelude.{List, None, Option, Some, refl, slice_get, ℕ, ◌&&◌, ◌==◌, ◌≡◌}
 use Rattle.block_rules.specs.Operands.{constant_fits, is_no_opaque_slot, is_of_type, is_typed, is_value, known_fits, known_of}
-use Rattle.block_rules.specs.TypeKinds.{kind_at, kind_held, kind_in, kind_of, kind_of_type, place_kind, pointer_kind, pointer_to, slot_kind, struct_pointer}
+use Rattle.type_kinds.specs.TypeKinds.{kind_at, kind_held, kind_in, kind_of, kind_of_type, place_kind, pointer_kind, pointer_to, slot_kind, struct_pointer}
 use Rattle.ir_ast.specs.declared.function.Function.{Function}
 use Rattle.ir_ast.specs.declared.ir_type.IrType.{IrType}
 use Rattle.ir_ast.specs.declared.ir_type.IrType.TheVariants.{Array, Double, EmptyStruct, Float, Integer, Named, Opaque, Pointer, Struct, Void}

@@ -4,10 +4,10 @@ use Rattle.block_rules.specs.Barriers.{after_read, after_read_call, is_own_place
 use Rattle.block_rules.specs.Operands.{is_available, is_based, is_current, is_no_slot, is_null_constant, known_fits, known_of, place_known, slot_named}
 use Rattle.types.specs.References.{is_opaque}
 use Rattle.block_rules.specs.Places.{is_one_layout, after_load, load_base, load_kind, load_known, load_place, loads_base, loads_known, loads_local, loads_slot, may_load, may_store, moves, moves_kind, stores_base, stores_known, stores_local, stores_slot}
-use Rattle.block_rules.specs.TypeKinds.{is_any_reference, is_word, may_be_reference}
+use Rattle.type_kinds.specs.TypeKinds.{is_any_reference, is_word, may_be_reference}
 use Rattle.block_rules.specs.declared.rule.Rule.TheVariants.{K1, K10, K12, K19, K2, K3, K4, K7}
-use Rattle.block_rules.specs.declared.type_kind.TypeKind.{TypeKind}
-use Rattle.block_rules.specs.declared.type_kind.TypeKind.TheVariants.{AnyReference}
+use Rattle.type_kinds.specs.declared.type_kind.TypeKind.{TypeKind}
+use Rattle.type_kinds.specs.declared.type_kind.TypeKind.TheVariants.{AnyReference}
 use Rattle.fact_tables.specs.Rows.{known_at}
 use Rattle.facts.specs.Facts.{FactSet}
 use Rattle.fact_tables.specs.declared.known.Known.{Known}

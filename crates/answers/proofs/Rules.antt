@@ -8,7 +8,7 @@ use Rattle.block_rules.specs.Integers.{after_select, arithmetic_below, below_of,
 use Rattle.block_rules.specs.Operands.{constant_fits, is_available, is_based, is_current, is_no_slot, known_of, place_known}
 use Rattle.block_rules.specs.Promises.{keeps_promise}
 use Rattle.block_rules.specs.Rules.{after_memory, after_named, after_number, all_come_in, are_cases, cast_conditions, choice_conditions, element_conditions, end_conditions, gives_root, is_case, is_condition, may_come_in, may_hold, memory_conditions, names_target, number_conditions, phi_conditions}
-use Rattle.block_rules.specs.TypeKinds.{is_bits, is_integer, is_pointer, is_void}
+use Rattle.type_kinds.specs.TypeKinds.{is_bits, is_integer, is_pointer, is_void}
 use Rattle.block_rules.specs.declared.rule.Rule.TheVariants.{K1, K10, K11, K12, K14, K19, K2, K3, K4, K5, K6, K8}
 use Rattle.block_rules.specs.declared.instr_context.InstrContext.{InstrContext}
 use Rattle.facts.specs.Facts.{FactSet}

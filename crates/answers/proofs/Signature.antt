@@ -2,7 +2,7 @@
 use Rattle.std.specs.List.{list_all, list_any, zip}
 use Rattle.std.specs.Prelude.{List, None, Option, Some, if◌then◌else◌, length, refl, ℕ, ◌&&◌, ◌||◌, ◌==◌, ◌≡◌}
 use Rattle.block_rules.specs.Signature.{callable, callable_declare, is_argument_of, is_declared_as, is_foreign, is_of_type, is_runtime_type, is_written_as, signature_of}
-use Rattle.block_rules.specs.TypeKinds.{is_any_reference, is_bits, is_integer, is_void}
+use Rattle.type_kinds.specs.TypeKinds.{is_any_reference, is_bits, is_integer, is_void}
 use Rattle.block_rules.specs.declared.callee.Callee.TheVariants.{Foreign, NoFunction, OfRuntime}
 use Rattle.block_rules.specs.declared.signature.RuntimeType.{RuntimeType}
 use Rattle.block_rules.specs.declared.signature.RuntimeType.TheVariants.{Bits, Pointer, PointerToPointer, Void}

@@ -5,7 +5,7 @@ use Rattle.std.specs.Prelude.{if◌then◌else◌, nat_lt, map, Option, Some, No
 use Rattle.std.specs.List.{find, range_with_len}
 use Rattle.pools.specs.WordSets.{no_words, has_word, adds_word}
 use Rattle.pools.specs.declared.word_set.WordSet.{WordSet}
-use Rattle.block_rules.proofs.Members.{left, left_some, left_none}
+use Rattle.type_kinds.proofs.Members.{left, left_some, left_none}
 use Rattle.block_rules.proofs.Ranges.{chosen, range_next}
 use Rattle.block_rules.specs.declared.stride.Stride.{Stride}
 use Rattle.block_rules.specs.Elements.{gathered, reached, all_reached, strode}

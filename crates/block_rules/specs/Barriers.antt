@@ -15,11 +15,11 @@ use Rattle.barriers.specs.Stores.{may_store_plain}
 use Rattle.block_rules.specs.declared.rule.Rule.{Rule}
 use Rattle.block_rules.specs.declared.rule.Rule.TheVariants.{K1, K2, K3, K4, K7, K10, K12, K19}
 use Rattle.block_rules.specs.declared.instr_context.InstrContext.{InstrContext}
-use Rattle.block_rules.specs.declared.type_kind.TypeKind.TheVariants.{AnyReference}
+use Rattle.type_kinds.specs.declared.type_kind.TypeKind.TheVariants.{AnyReference}
 use Rattle.block_rules.specs.Operands.{slot_named, known_of, is_available, is_typed, is_value, is_current, is_null, place_known, is_based, is_no_slot}
 use Rattle.block_rules.specs.Places.{loads_known, stores_known, load_known, is_one_layout}
 use Rattle.block_rules.specs.Signature.{is_written_as}
-use Rattle.block_rules.specs.TypeKinds.{kind_of, may_be_reference}
+use Rattle.type_kinds.specs.TypeKinds.{kind_of, may_be_reference}
 use Rattle.block_rules.specs.Casts.{casts_operand}
 
 -- ---- without a barrier

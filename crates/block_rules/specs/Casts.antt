@@ -14,11 +14,12 @@ use Rattle.fact_tables.specs.declared.known.Known.{Known}
 use Rattle.fact_tables.specs.declared.known.Known.TheVariants.{Nothing, Number, Cell, Null, Address, GlobalAddress}
 use Rattle.fact_tables.specs.Rows.{known_at, off_base}
 use Rattle.facts.specs.Facts.{FactSet, define}
-use Rattle.block_rules.specs.declared.type_kind.TypeKind.{TypeKind}
-use Rattle.block_rules.specs.declared.type_kind.TypeKind.TheVariants.{Bits, Reference}
+use Rattle.type_kinds.specs.declared.type_kind.TypeKind.{TypeKind}
+use Rattle.type_kinds.specs.declared.type_kind.TypeKind.TheVariants.{Bits, Reference}
 use Rattle.block_rules.specs.Operands.{known_of}
-use Rattle.block_rules.specs.Places.{layout_of_word, loads_words, define_held}
-use Rattle.block_rules.specs.TypeKinds.{kind_of, slot_kind, place_kind, is_bits, may_be_reference, fits_layout, layout_of_kind}
+use Rattle.type_kinds.specs.WantedWords.{layout_of_word, loads_words}
+use Rattle.block_rules.specs.Places.{define_held}
+use Rattle.type_kinds.specs.TypeKinds.{kind_of, slot_kind, place_kind, is_bits, may_be_reference, fits_layout, layout_of_kind}
 use Rattle.block_rules.specs.Bounds.{below_next}
 use Rattle.block_rules.specs.Integers.{define_number}
 

@@ -25,10 +25,10 @@ use Rattle.fact_tables.specs.declared.known.Known.TheVariants.{Nothing, Number, 
 use Rattle.fact_tables.specs.Rows.{test_at}
 use Rattle.facts.specs.Facts.{FactSet, learn_test, after_phis}
 use Rattle.facts.specs.Claims.{facts_of_claims, facts_of_parameters, implies_claim}
-use Rattle.block_rules.specs.declared.type_kind.TypeKind.{TypeKind}
-use Rattle.block_rules.specs.declared.type_kind.TypeKind.TheVariants as kind
+use Rattle.type_kinds.specs.declared.type_kind.TypeKind.{TypeKind}
+use Rattle.type_kinds.specs.declared.type_kind.TypeKind.TheVariants as kind
 use Rattle.block_rules.specs.Operands.{known_of}
-use Rattle.block_rules.specs.TypeKinds.{kind_of}
+use Rattle.type_kinds.specs.TypeKinds.{kind_of}
 use Rattle.block_rules.specs.InstrContext.{phis_of, end_of}
 use Rattle.block_rules.specs.Bounds.{below_next}
 use Rattle.block_rules.specs.Promises.{promises_in, given_by}

@@ -10,10 +10,10 @@ use Rattle.facts.specs.Facts.{FactSet}
 use Rattle.block_rules.specs.declared.instr_context.InstrContext.{InstrContext}
 use Rattle.block_rules.specs.declared.rule.Rule.{Rule}
 use Rattle.block_rules.specs.declared.rule.Rule.TheVariants.{K1, K2, K10, K12}
-use Rattle.block_rules.specs.declared.type_kind.TypeKind.{TypeKind}
-use Rattle.block_rules.specs.declared.type_kind.TypeKind.TheVariants.{Bits}
+use Rattle.type_kinds.specs.declared.type_kind.TypeKind.{TypeKind}
+use Rattle.type_kinds.specs.declared.type_kind.TypeKind.TheVariants.{Bits}
 use Rattle.block_rules.specs.Operands.{is_available, is_value, is_no_slot}
-use Rattle.block_rules.specs.TypeKinds.{kind_of, is_integer}
+use Rattle.type_kinds.specs.TypeKinds.{kind_of, is_integer}
 
 -- K2: an operand is a value of a type of numbers
 abbrev pub is_number_of : Module → Function → SlotTable → FactSet → (written : ℕ) → Operand → Bool

@@ -22,7 +22,7 @@ use Rattle.certs.specs.declared.section.Mark.{Mark}
 use Rattle.certs.specs.declared.section.Promise.{Promise}
 use Rattle.block_rules.specs.declared.instr_context.InstrContext.{InstrContext}
 use Rattle.block_rules.specs.Operands.{slot_named}
-use Rattle.block_rules.specs.TypeKinds.{kind_of, may_be_reference}
+use Rattle.type_kinds.specs.TypeKinds.{kind_of, may_be_reference}
 
 -- a local name is a parameter of a function
 abbrev pub is_parameter : Function → (value : ℕ) → Bool

@@ -11,11 +11,11 @@ use Rattle.ir_ast.specs.declared.operand.Operand.TheVariants.{Constant as Writte
 use Rattle.fact_tables.specs.declared.known.Known.{Known}
 use Rattle.fact_tables.specs.declared.known.Known.TheVariants.{Nothing, Number, Cell}
 use Rattle.facts.specs.Facts.{FactSet, define, define_test, drop_fresh_of}
-use Rattle.block_rules.specs.declared.type_kind.TypeKind.{TypeKind}
-use Rattle.block_rules.specs.declared.type_kind.TypeKind.TheVariants.{Bits, Reference, AnyReference}
+use Rattle.type_kinds.specs.declared.type_kind.TypeKind.{TypeKind}
+use Rattle.type_kinds.specs.declared.type_kind.TypeKind.TheVariants.{Bits, Reference, AnyReference}
 use Rattle.block_rules.specs.Operands.{known_of, number_of, is_nonnull}
 use Rattle.block_rules.specs.Places.{define_held}
-use Rattle.block_rules.specs.TypeKinds.{layout_of_kind}
+use Rattle.type_kinds.specs.TypeKinds.{layout_of_kind}
 use Rattle.block_rules.specs.Bounds.{below_next}
 
 -- what a number is known to be below

@@ -1,4 +1,3 @@
-pub mod TypeKinds
 pub mod RuntimeNames
 pub mod Signature
 pub mod Operands

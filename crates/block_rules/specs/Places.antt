@@ -1,15 +1,11 @@
 -- Loads and stores: what a place holds, and what may be moved there.
-use Rattle.std.specs.Prelude.{ℕ, ◌==◌, Bool, true, false, not, ◌&&◌, ◌||◌, if◌then◌else◌, List, [], ◌∷◌, Option, Some, None}
-use Rattle.std.specs.List.{list_all, range_with_len}
+use Rattle.std.specs.Prelude.{ℕ, ◌==◌, Bool, true, false, not, ◌&&◌, ◌||◌, if◌then◌else◌, List, Option, Some, None}
 use Rattle.ir_ast.specs.declared.module.Module.{Module}
 use Rattle.ir_ast.specs.declared.operand.Operand.{Operand}
 use Rattle.ir_ast.specs.declared.operand.Operand.TheVariants.{Constant as Written, Local}
 use Rattle.layout.specs.Globals.{global_word}
 use Rattle.layout.specs.Layouts.{LaidOut}
-use Rattle.pools.specs.Layouts.{kind_of_word}
-use Rattle.pools.specs.WordSets.{has_word}
 use Rattle.pools.specs.declared.word_kind.WordKind.{WordKind}
-use Rattle.pools.specs.declared.word_kind.WordKind.TheVariants as word
 use Rattle.pools.specs.declared.word_set.WordSet.{WordSet}
 use Rattle.shadow_stack.specs.Slots.{SlotTable, slot_of, held_type}
 use Rattle.types.specs.References.{is_opaque}
@@ -17,12 +13,13 @@ use Rattle.fact_tables.specs.declared.known.Known.{Known}
 use Rattle.fact_tables.specs.declared.known.Known.TheVariants.{Nothing, Number, Cell, Null, Address, GlobalAddress}
 use Rattle.fact_tables.specs.Rows.{known_at}
 use Rattle.facts.specs.Facts.{FactSet, define, define_new, drop_fresh_of, store_slot, load_slot}
-use Rattle.block_rules.specs.declared.wanted_word.WantedWord.{WantedWord}
-use Rattle.block_rules.specs.declared.wanted_word.WantedWord.TheVariants as want
-use Rattle.block_rules.specs.declared.type_kind.TypeKind.{TypeKind}
-use Rattle.block_rules.specs.declared.type_kind.TypeKind.TheVariants.{Bits, Reference, AnyReference}
+use Rattle.type_kinds.specs.declared.wanted_word.WantedWord.{WantedWord}
+use Rattle.type_kinds.specs.declared.wanted_word.WantedWord.TheVariants as want
+use Rattle.type_kinds.specs.declared.type_kind.TypeKind.{TypeKind}
+use Rattle.type_kinds.specs.declared.type_kind.TypeKind.TheVariants.{Bits, Reference, AnyReference}
+use Rattle.type_kinds.specs.WantedWords.{holds_wanted, layout_of_word, cell_words, each_word, first_layout, loads_words, loads_word, wanted_by_store}
 use Rattle.block_rules.specs.Operands.{slot_named, place_known, known_fits, is_null_constant}
-use Rattle.block_rules.specs.TypeKinds.{kind_of, slot_kind, is_any_reference, is_word}
+use Rattle.type_kinds.specs.TypeKinds.{kind_of, slot_kind, is_any_reference, is_word}
 
 -- a value may be loaded from a slot: the load writes the type that the slot holds, or i8*; a slot that does not exist holds nothing
 abbrev pub loads_slot : Module → (written : ℕ) → (held : Option ℕ) → Bool
@@ -40,55 +37,10 @@ abbrev pub moves : Module → (written : ℕ) → (held : Option ℕ) → TypeKi
 moves m written None kind = false
 moves m written (Some held) kind = moves_kind (written == held) (kind_of m written) kind
 
--- a word that is there holds what is wanted
-abbrev pub holds_wanted : WantedWord → Option WordKind → Bool
-holds_wanted (want.Integer bits) (Some (word.Integer other)) = other == bits
-holds_wanted (want.Reference layout) (Some (word.Reference other)) = other == layout
-holds_wanted want.AnyReference (Some (word.Reference other)) = true
-holds_wanted _ _ = false
-
--- the layout to which a word that is there refers
-abbrev pub layout_of_word : Option WordKind → Option ℕ
-layout_of_word (Some (word.Reference layout)) = Some layout
-layout_of_word _ = None
-
--- the words of a cell, by their numbers
-abbrev pub cell_words : List ℕ
-cell_words = range_with_len 0 64
-
--- each word of a set holds what is wanted, in a layout
-abbrev pub each_word : WantedWord → (layouts : List (List WordKind)) → (layout : ℕ) → WordSet → Bool
-each_word wanted layouts layout words = list_all (λ w. not (has_word words w) || holds_wanted wanted (kind_of_word layouts layout w)) cell_words
-
--- the layout to which the first of these words refers that a set has
-abbrev pub first_layout : (layouts : List (List WordKind)) → (layout : ℕ) → WordSet → List ℕ → Option ℕ
-first_layout layouts layout words [] = None
-first_layout layouts layout words (w ∷ rest) = if has_word words w then layout_of_word (kind_of_word layouts layout w) else first_layout layouts layout words rest
-
--- references of one layout are wanted: that of the first word, if there is one
-abbrev pub one_reference : (first : Option ℕ) → WantedWord
-one_reference None = want.Nothing
-one_reference (Some layout) = want.Reference layout
-
--- what a load of this kind wants of words, the first of which refers to this layout
-abbrev pub wanted_by_load : TypeKind → (first : Option ℕ) → WantedWord
-wanted_by_load (Bits bits) first = want.Integer bits
-wanted_by_load (Reference layout) first = want.Reference layout
-wanted_by_load AnyReference first = one_reference first
-wanted_by_load _ first = want.Nothing
-
--- words of a layout may be loaded under a type of this kind
-abbrev pub loads_words : (layouts : List (List WordKind)) → (layout : ℕ) → WordSet → TypeKind → Bool
-loads_words layouts layout words kind = each_word (wanted_by_load kind (first_layout layouts layout words cell_words)) layouts layout words
-
 -- the same of words of the cell that a base refers to
 abbrev pub loads_base : LaidOut → TypeKind → WordSet → (base : Known) → Bool
 loads_base p kind words (Cell class layout stale) = loads_words p.layouts layout words kind
 loads_base p kind words _ = true
-
--- the same of the word of a global
-abbrev pub loads_word : TypeKind → Option WordKind → Bool
-loads_word kind word = holds_wanted (wanted_by_load kind (layout_of_word word)) word
 
 -- K2: a load of this kind from what is known of a place, which has to be an address
 abbrev pub loads_known : LaidOut → FactSet → TypeKind → Known → Bool
@@ -120,13 +72,6 @@ wanted_by_value _ = Some want.Nothing
 abbrev pub fits_words : (layouts : List (List WordKind)) → (layout : ℕ) → WordSet → Option WantedWord → Bool
 fits_words layouts layout words None = true
 fits_words layouts layout words (Some wanted) = each_word wanted layouts layout words
-
--- what a store of this kind wants of words
-abbrev pub wanted_by_store : TypeKind → WantedWord
-wanted_by_store (Bits bits) = want.Integer bits
-wanted_by_store (Reference layout) = want.Reference layout
-wanted_by_store AnyReference = want.AnyReference
-wanted_by_store _ = want.Nothing
 
 -- both, of words of the cell that a base refers to
 abbrev pub stores_base : LaidOut → TypeKind → (value : Known) → WordSet → (base : Known) → Bool

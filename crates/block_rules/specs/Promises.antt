@@ -12,8 +12,8 @@ use Rattle.facts.specs.declared.given.Given.TheVariants as given
 use Rattle.facts.specs.Facts.{FactSet}
 use Rattle.fact_tables.specs.Covers.{implied}
 use Rattle.facts.specs.Claims.{is_below}
-use Rattle.block_rules.specs.declared.type_kind.TypeKind.{TypeKind}
-use Rattle.block_rules.specs.declared.type_kind.TypeKind.TheVariants as kind
+use Rattle.type_kinds.specs.declared.type_kind.TypeKind.{TypeKind}
+use Rattle.type_kinds.specs.declared.type_kind.TypeKind.TheVariants as kind
 use Rattle.block_rules.specs.Operands.{known_of, is_nonnull}
 use Rattle.block_rules.specs.Integers.{below_of, known_layout, one_layout}
 

@@ -34,7 +34,7 @@ use Rattle.block_rules.specs.FirstFailing.{first_failing}
 use Rattle.block_rules.specs.Operands.{slot_named, known_of, is_available, constant_fits, is_typed, is_value, is_current, place_known, is_based, is_no_slot}
 use Rattle.block_rules.specs.Places.{may_load, may_store, is_one_layout, after_load, after_store}
 use Rattle.block_rules.specs.Signature.{callee_of}
-use Rattle.block_rules.specs.TypeKinds.{kind_of, is_integer, is_pointer, is_void, is_bits}
+use Rattle.type_kinds.specs.TypeKinds.{kind_of, is_integer, is_pointer, is_void, is_bits}
 use Rattle.block_rules.specs.Barriers.{needs_no_barrier}
 use Rattle.block_rules.specs.Casts.{casts_operand, may_cast, after_cast}
 use Rattle.block_rules.specs.Elements.{may_be_base, are_indices, may_lead, after_element}

@@ -15,11 +15,11 @@ use crate::operands::{
 use crate::places::{is_one_layout, load_known, loads_known, publish, stores_known};
 use crate::rule::Rule;
 use crate::signature::is_written_as;
-use crate::type_kind::TypeKind;
 use barriers::may_store_plain;
 use facts::{ClassId, Facts, Known};
 use ir_ast::{Argument, Operand, Runtime, TypeId, ValueId};
 use std::alloc::AllocError;
+use type_kinds::TypeKind;
 
 fn is_own_place(facts: &Facts, place: &Known) -> bool
     ensures { result ≡ is_own_place facts.now place.now }

@@ -2,7 +2,7 @@ ghost use Rattle.std.specs.Prelude.{◌≡◌, ◌&&◌, OnOk};
 ghost use Rattle.fact_tables.specs.Rows.{is_on, off_base};
 ghost use Rattle.block_rules.specs.FirstFailing.{first_failing};
 ghost use Rattle.block_rules.specs.Rules.{cast_conditions};
-ghost use Rattle.block_rules.specs.TypeKinds.{kind_of, is_bits};
+ghost use Rattle.type_kinds.specs.TypeKinds.{kind_of, is_bits};
 ghost use Rattle.block_rules.specs.Casts.{casts_null, casts_constant, casts_slot, casts_words, casts_base, casts_to, casts_global, casts_operand, casts_known, casts_other, may_cast, layout_of_null, cast_number, cast_constant, cast_local, after_cast};
 
 use crate::conditions::first_failing;
@@ -10,15 +10,15 @@ use crate::context::RuleContext;
 use crate::instr_context::InstrContext;
 use crate::numbers::{below_next, define_number};
 use crate::operands::{is_available, is_operand_current, is_typed, known_of};
-use crate::places::{define_held, layout_of_word, loads_words};
+use crate::places::define_held;
 use crate::rule::Rule;
-use crate::type_kind::TypeKind;
 use facts::{Facts, Known};
 use ir_ast::{Cast, Constant, Module, Operand, SymbolId, TypeId, ValueId};
 use layout::{Program, global_word};
 use pools::{LayoutId, Layouts, WordSet};
 use shadow_stack::SlotId;
 use std::alloc::AllocError;
+use type_kinds::{TypeKind, layout_of_word, loads_words};
 
 fn casts_null(module: &Module, from: TypeId, to: TypeId) -> bool
     ensures { result ≡ casts_null «module».now from to }

@@ -9,10 +9,10 @@ use crate::elements::after_element;
 use crate::memory::after_memory;
 use crate::numbers::after_number;
 use crate::signature::callee_of;
-use crate::type_kind::TypeKind;
 use facts::Facts;
 use ir_ast::{Instr, Op, ValueId};
 use std::alloc::AllocError;
+use type_kinds::TypeKind;
 
 /// Goes on to what is known after an instruction. Where memory is refused the facts are of no more use.
 pub fn advance(context: &RuleContext, facts: &mut Facts, instr: &Instr) -> Result<(), AllocError>

@@ -10,9 +10,9 @@ use crate::instr_context::InstrContext;
 use crate::operands::{constant_fits, is_available, is_no_slot, is_operand_current, is_value};
 use crate::promises::keeps_promise;
 use crate::rule::Rule;
-use crate::type_kind::TypeKind;
 use facts::Facts;
 use ir_ast::{Argument, BlockId, Case, End, Function, TypeId, ValueId};
+use type_kinds::TypeKind;
 use types::target_of;
 
 fn is_target(function: &Function, block: Option<BlockId>) -> bool

@@ -8,9 +8,9 @@ use crate::context::RuleContext;
 use crate::instr_context::InstrContext;
 use crate::operands::{is_available, is_no_slot, is_value};
 use crate::rule::Rule;
-use crate::type_kind::TypeKind;
 use facts::Facts;
 use ir_ast::{FloatOp, Module, Operand, TypeId};
+use type_kinds::TypeKind;
 
 /// Whether an operand is a value of a type of numbers.
 fn is_number_of(context: &RuleContext, facts: &Facts, written: TypeId, operand: &Operand) -> bool

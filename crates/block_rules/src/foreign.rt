@@ -10,10 +10,10 @@ use crate::context::RuleContext;
 use crate::instr_context::InstrContext;
 use crate::operands::{is_null, is_value};
 use crate::rule::Rule;
-use crate::type_kind::TypeKind;
 use facts::Facts;
 use ir_ast::{Argument, DeclareId, Module, TypeId};
 use outside_names::is_outside_operand;
+use type_kinds::TypeKind;
 
 /// The rule that a call of the declared function with this number breaks, if it breaks one.
 pub fn foreign_refusal(

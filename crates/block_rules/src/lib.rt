@@ -27,8 +27,6 @@ mod rule;
 mod runtime_names;
 mod signature;
 mod stride;
-mod type_kind;
-mod wanted_word;
 
 pub use block_fault::{BlockFault, Breach, Detail, Refusal};
 pub use changes::advance;
@@ -44,4 +42,4 @@ pub use operands::known_of;
 pub use promises::{given_by, own_mark, promised_in, promises_in};
 pub use refusals::refusal;
 pub use rule::Rule;
-pub use type_kind::TypeKind;
+pub use type_kinds::TypeKind;

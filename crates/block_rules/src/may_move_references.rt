@@ -2,9 +2,9 @@ ghost use Rattle.std.specs.Prelude.{◌≡◌};
 ghost use Rattle.std.specs.List.{list_any};
 ghost use Rattle.block_rules.specs.InstrContext.{is_collected_type, memory_moves, moves_reference, instruction_moves, phi_moves, block_moves, function_moves, is_shadow_stack, keeps_shadow_stack};
 
-use crate::type_kind::TypeKind;
 use ir_ast::{Argument, Block, Function, Instr, MemoryOp, Module, Op, Parameter, Phi, TypeId};
 use items::Items;
+use type_kinds::TypeKind;
 
 /// Whether a function that moves references has a shadow stack.
 pub fn keeps_shadow_stack(module: &Module, function: &Function) -> bool

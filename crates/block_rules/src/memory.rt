@@ -15,11 +15,11 @@ use crate::operands::{
 };
 use crate::places::{after_load, after_store, is_one_layout, may_load, may_store};
 use crate::rule::Rule;
-use crate::type_kind::TypeKind;
 use facts::Facts;
 use ir_ast::{Argument, MemoryOp, Operand, TypeId, ValueId};
 use shadow_stack::{SlotId, Slots};
 use std::alloc::AllocError;
+use type_kinds::TypeKind;
 
 fn names_root(slots: &Slots, slot: Option<SlotId>) -> bool
     ensures { result ≡ names_root slots.now slot }

@@ -13,10 +13,10 @@ use crate::operands::{
     is_available, is_no_slot, is_operand_current, is_value, known_of, number_of,
 };
 use crate::rule::Rule;
-use crate::type_kind::TypeKind;
 use facts::{Facts, Known, Test};
 use ir_ast::{Argument, Arithmetic, Comparison, NumberOp, Operand, Resize, TypeId, ValueId};
 use std::alloc::AllocError;
+use type_kinds::TypeKind;
 
 /// The number after this one, which it is below; 2 to the 64 is no bound.
 pub fn below_next(number: u64) -> Option<u64>

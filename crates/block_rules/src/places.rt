@@ -1,19 +1,21 @@
 ghost use Rattle.std.specs.Prelude.{◌≡◌, OnOk, Some};
-ghost use Rattle.pools.specs.Layouts.{kind_of_word};
 ghost use Rattle.facts.specs.Facts.{drop_fresh_of};
 ghost use Rattle.block_rules.specs.Operands.{known_of};
-ghost use Rattle.block_rules.specs.Places.{loads_slot, moves_kind, moves, holds_wanted, layout_of_word, cell_words, each_word, first_layout, one_reference, wanted_by_load, loads_words, loads_base, loads_word, loads_known, may_load, wanted_by_store, is_one_layout, wanted_by_value, fits_words, stores_base, fits_word, stores_word, stores_known, stores_slot, may_store, define_held, load_kind, load_words, load_base, load_word, load_known, load_place, after_load, after_store};
+ghost use Rattle.type_kinds.specs.WantedWords.{holds_wanted, each_word, first_layout, layout_of_word, cell_words, loads_words, loads_word, wanted_by_store};
+ghost use Rattle.block_rules.specs.Places.{loads_slot, moves_kind, moves, loads_base, loads_known, may_load, is_one_layout, wanted_by_value, fits_words, stores_base, fits_word, stores_word, stores_known, stores_slot, may_store, define_held, load_kind, load_words, load_base, load_word, load_known, load_place, after_load, after_store};
 
 use crate::context::RuleContext;
 use crate::operands::{is_null_constant, known_fits, known_of, place_known, slot_named};
-use crate::type_kind::TypeKind;
-use crate::wanted_word::WantedWord;
 use facts::{Class, Facts, Known};
 use ir_ast::{Module, Operand, TypeId, ValueId};
 use layout::{Program, global_word};
 use pools::{LayoutId, Layouts, WordKind, WordSet};
 use shadow_stack::SlotId;
 use std::alloc::AllocError;
+use type_kinds::{
+    TypeKind, WantedWord, each_word, first_layout, holds_wanted, layout_of_word, loads_word,
+    loads_words, wanted_by_store,
+};
 use types::is_opaque;
 
 fn loads_slot(module: &Module, written: TypeId, held: Option<TypeId>) -> bool
@@ -47,87 +49,6 @@ fn moves(module: &Module, written: TypeId, held: Option<TypeId>, kind: TypeKind)
     }
 }
 
-fn kind_is_wanted(wanted: WantedWord, kind: WordKind) -> bool
-    ensures { result ≡ holds_wanted wanted (Some kind) }
-{
-    match kind {
-        WordKind::Integer(bits) => matches!(wanted, WantedWord::Integer(other) if bits == other),
-        WordKind::Reference(layout) => match wanted {
-            WantedWord::Reference(other) => layout == other,
-            WantedWord::AnyReference => true,
-            _ => false,
-        },
-    }
-}
-
-fn holds_wanted(wanted: WantedWord, kind: Option<WordKind>) -> bool
-    ensures { result ≡ holds_wanted wanted kind }
-{
-    match kind {
-        Some(kind) => kind_is_wanted(wanted, kind),
-        None => false,
-    }
-}
-
-fn kind_of_word(layouts: &Layouts, layout: LayoutId, word: u32) -> Option<WordKind>
-    ensures { result ≡ kind_of_word layouts.now layout word }
-{
-    layouts.words(layout).get(word as usize).copied()
-}
-
-fn each_word(wanted: &WantedWord, layouts: &Layouts, layout: LayoutId, words: &WordSet) -> bool
-    ensures { result ≡ each_word wanted.now layouts.now layout words.now }
-{
-    let mut from = 0;
-    while let Some(word) = words.next_from(from) {
-        if !holds_wanted(*wanted, kind_of_word(layouts, layout, word)) {
-            return false;
-        }
-        from = word + 1;
-    }
-    true
-}
-
-/// The layout to which a word refers.
-pub fn layout_of_word(kind: Option<WordKind>) -> Option<LayoutId>
-    ensures { result ≡ layout_of_word kind }
-{
-    match kind? {
-        WordKind::Reference(layout) => Some(layout),
-        WordKind::Integer(_) => None,
-    }
-}
-
-/// The layout to which the first word of a set refers.
-fn first_layout(layouts: &Layouts, layout: LayoutId, words: &WordSet) -> Option<LayoutId>
-    ensures { result ≡ first_layout layouts.now layout words.now cell_words }
-{
-    let word = words.next_from(0)?;
-    layout_of_word(kind_of_word(layouts, layout, word))
-}
-
-fn wanted_by_load(kind: TypeKind, first: Option<LayoutId>) -> WantedWord
-    ensures { result ≡ wanted_by_load kind first }
-{
-    match kind {
-        TypeKind::Bits(bits) => WantedWord::Integer(bits),
-        TypeKind::Reference(layout) => WantedWord::Reference(layout),
-        TypeKind::AnyReference => match first {
-            Some(layout) => WantedWord::Reference(layout),
-            None => WantedWord::Nothing,
-        },
-        _ => WantedWord::Nothing,
-    }
-}
-
-/// Whether words of a layout may be loaded under a type of this kind.
-pub fn loads_words(layouts: &Layouts, layout: LayoutId, words: &WordSet, kind: TypeKind) -> bool
-    ensures { result ≡ loads_words layouts.now layout words.now kind }
-{
-    let first = first_layout(layouts, layout, words);
-    each_word(&wanted_by_load(kind, first), layouts, layout, words)
-}
-
 fn loads_base(program: &Program, kind: TypeKind, words: &WordSet, base: &Known) -> bool
     ensures { result ≡ loads_base program.now kind words.now base.now }
 {
@@ -135,13 +56,6 @@ fn loads_base(program: &Program, kind: TypeKind, words: &WordSet, base: &Known) 
         Known::Cell { layout, .. } => loads_words(program.layouts(), *layout, words, kind),
         _ => true,
     }
-}
-
-fn loads_word(kind: TypeKind, word: &Option<WordKind>) -> bool
-    ensures { result ≡ loads_word kind word.now }
-{
-    let first = layout_of_word(*word);
-    holds_wanted(wanted_by_load(kind, first), *word)
 }
 
 /// Whether a load of this kind may be from what is known of a place.
@@ -182,17 +96,6 @@ pub fn may_load(
             let kind = TypeKind::of(context.module(), loaded);
             loads_known(context.program, facts, kind, known)
         }
-    }
-}
-
-fn wanted_by_store(kind: TypeKind) -> WantedWord
-    ensures { result ≡ wanted_by_store kind }
-{
-    match kind {
-        TypeKind::Bits(bits) => WantedWord::Integer(bits),
-        TypeKind::Reference(layout) => WantedWord::Reference(layout),
-        TypeKind::AnyReference => WantedWord::AnyReference,
-        _ => WantedWord::Nothing,
     }
 }
 

@@ -8,11 +8,11 @@ ghost use Rattle.block_rules.specs.Promises.{promises_in, promised_in, own_mark,
 use crate::choices::{known_layout, one_layout};
 use crate::numbers::below_of;
 use crate::operands::{is_nonnull, known_of};
-use crate::type_kind::TypeKind;
 use certs::{Mark, Promise, Section};
 use facts::{Facts, Given};
 use ir_ast::{Argument, Operand};
 use pools::LayoutId;
+use type_kinds::TypeKind;
 
 /// What a certificate promises of each parameter.
 pub fn promises_in(section: Option<&Section>) -> &[Option<Promise>]

@@ -9,7 +9,8 @@ use Rattle.certificate.specs.Print.{cert_text}
 use Rattle.certificate.specs.declared.fault.CertFault.{CertFault}
 use Rattle.certificate.specs.declared.fault.CertFault.TheVariants as cert
 use Rattle.reports.specs.Report.{made_text, no_memory, of_cert_fault}
-use Rattle.reports.specs.Files.{HasModule, IsNoModule, bytes_of, file_of, kept, of_unread}
+use Rattle.reports.specs.Files as files
+use Rattle.reports.specs.Files.{HasModule, IsNoModule, bytes_of, file_of, of_unread}
 use Rattle.reports.specs.Said.{Said, OnOutput, OnError, OfCertified}
 use Rattle.reports.specs.declared.files.File.{File}
 use Rattle.reports.specs.declared.files.ModuleFile.{ModuleFile}
@@ -57,4 +58,4 @@ OfMigrateGiven first (Some certificate) = OfCertified (OfMigrated (known_bytes (
 
 -- the same where all of the module is to be kept
 abbrev pub OfMigrate : (first : Option ModuleFile) → (certificate : Option File) → Said → Type 0
-OfMigrate first certificate = OfMigrateGiven (kept first) certificate
+OfMigrate first certificate = OfMigrateGiven (files.kept first) certificate

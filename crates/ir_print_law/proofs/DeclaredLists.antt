@@ -76,7 +76,7 @@ is_close _ = false
 
 -- no dots stand before the bracket that closes
 pub dots_said : (o : Input) (rest : Text) → Stands o.cursor (41 ∷ rest) → dots.says o false o
-unfolding dots
+unfolding dots is_close
 dots_said o rest at =
     subst (λ (b : Bool). (dots_by b).says o false o) (sym (no_dots o (unlike k.Dots is_close o refl (ap is_close (close_round_comes o.cursor rest at).0)))) (refl, refl)
 

@@ -26,6 +26,7 @@ use Rattle.ir_forms.specs.Names.{may_be_operand, sort_of_symbol, symbol_number, 
 use Rattle.ir_forms.specs.Operand as form
 use Rattle.ir_forms.specs.Written as w
 use Rattle.ir_forms.specs.declared.written.Word.{Word}
+use Rattle.ir_forms.specs.declared.written.Word.TheVariants as word
 use Rattle.ir_forms.specs.declared.written.FloatType.TheVariants as size
 use Rattle.ir_print_law.specs.Fits.{FitsType, is_bit_width, constant_shown}
 use Rattle.name_text.specs.Names.{name_text}
@@ -145,12 +146,26 @@ constant_ends bits i o x h = constant_kind bits i o x (kind i.cursor) h
 no_local : (x : Constant) (n : ℕ) → operand.Constant x ≡ operand.Local n → ⊥
 no_local x n e = cc
 
+-- an address outside is no local name
+no_global : (symbol n : ℕ) → operand.Global symbol ≡ operand.Local n → ⊥
+no_global symbol n e = cc
+
+-- a constant getelementptr gives no local name
+element_no_local : (bits : Word) (wide : Bool) (i o : Input) (n : ℕ) → (form.element_by bits wide).says i (operand.Local n) o → ⊥
+element_no_local word.Pointer true i o n h = no_global h.0 n h.3.0
+element_no_local word.Pointer false i o n h = no_local h.0 n h.3.0
+element_no_local (word.Integer bits) wide i o n h = no_local h.0 n h.3.0
+element_no_local word.Float wide i o n h = no_local h.0 n h.3.0
+element_no_local word.Double wide i o n h = no_local h.0 n h.3.0
+
 -- a local name begins with such a token
 local_kind : (bits : Word) (i o : Input) (n : ℕ) (y : Kind) → (form.operand_by bits y).says i (operand.Local n) o → begins_operand y ≡ true
+unfolding form.element_operand
 local_kind bits i o n k.LocalName h = refl
 local_kind bits i o n k.LocalNumber h = refl
 local_kind bits i o n k.GlobalName h = refl
 local_kind bits i o n k.Bitcast h = refl
+local_kind bits i o n k.Getelementptr h = absurd (element_no_local bits i.wide i o n h)
 local_kind bits i o n _ h = absurd (no_local h.0 n h.3.0)
 
 -- its first token

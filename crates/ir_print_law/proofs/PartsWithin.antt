@@ -80,6 +80,7 @@ module _ (m : Module) (own : HasModuleNames m) where
   global_numbers = map (λ (x : Global). x.symbol) m.globals
 
   global_there : (n : ℕ) → IsIn n global_numbers → HasGlobal m n
+  unfolding global_numbers
   global_there n there =
       let p = item_in (λ (x : Global). x.symbol) m.globals n there in (
         each_number (λ (x : Global). x.symbol) (HasSymbol m) m.globals n globals_have there,
@@ -131,12 +132,14 @@ module _ (m : Module) (own : HasModuleNames m) where
   address_numbers = global_numbers ++ function_numbers
 
   address_keys : (more : List Text) → defined_globals (wide_module m more) ++ functions_of (wide_module m more) ≡ keys_at m.symbols address_numbers
+  unfolding global_numbers address_numbers
   address_keys more =
       ap (λ (l : List Text). l ++ functions_of (wide_module m more)) (globals_stay more ∙ item_keys (λ (x : Global). x.symbol) m.globals m.symbols)
       ∙ ap (λ (l : List Text). keys_at m.symbols global_numbers ++ l) (functions_stay more ∙ function_keys)
       ∙ sym (map-append (name_at m.symbols) global_numbers function_numbers)
 
   address_there : (n : ℕ) → IsIn n address_numbers → HasAddress m n
+  unfolding address_numbers
   address_there n there = elim (in_either n global_numbers function_numbers there) [
     | inl global ↦ inl (global_there n global)
     | inr function ↦ inr (function_there n function)

@@ -9,7 +9,7 @@ use Rattle.certs.specs.declared.section.Mark.{Mark}
 use Rattle.certs.specs.declared.section.Mark.TheVariants as mark
 use Rattle.certs.specs.declared.section.Promise.{Promise}
 use Rattle.certs.specs.declared.section.Section.{Section}
-use Rattle.block_rules.specs.TypeKinds.{kind_of, layout_of_kind}
+use Rattle.type_kinds.specs.TypeKinds.{kind_of, layout_of_kind}
 use Rattle.answers.specs.Edited.{is_caller}
 
 -- ---- types and marks

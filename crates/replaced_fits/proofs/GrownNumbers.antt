@@ -19,8 +19,8 @@ module _ (m n : Module) (g : Grows m n) (closed : IsClosed m) (wide : n.wide ≡
 
   pub numbers_imply : (lines : List LayoutNumber) → Implies (numbers_fit m lines) (numbers_fit n lines)
   numbers_imply [] h = refl
-  numbers_imply (line ∷ lines) =
+  numbers_imply (line ∷ lines) h =
       both_imply m.wide (list_all (may_number m) (line ∷ lines) && are_numbered_once (line ∷ lines)) n.wide (list_all (may_number n) (line ∷ lines) && are_numbered_once (line ∷ lines))
       (λ h. wide ∙ h)
       (both_imply (list_all (may_number m) (line ∷ lines)) (are_numbered_once (line ∷ lines)) (list_all (may_number n) (line ∷ lines)) (are_numbered_once (line ∷ lines))
-      (each_implies (may_number m) (may_number n) (line ∷ lines) (λ k x e. line_implies x)) (itself (are_numbered_once (line ∷ lines))))
+      (each_implies (may_number m) (may_number n) (line ∷ lines) (λ k x e. line_implies x)) (itself (are_numbered_once (line ∷ lines)))) h

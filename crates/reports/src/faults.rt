@@ -13,7 +13,9 @@ use crate::found::{
 use crate::status::{STATUS_MEMORY, STATUS_UNREADABLE, STATUS_USAGE};
 use certificate::CertFault;
 use explain::Code;
-use fault_codes::{cert_code, cert_place, layout_code, read_code, read_place, trace_code, trace_place};
+use fault_codes::{
+    cert_code, cert_place, layout_code, read_code, read_place, trace_code, trace_place,
+};
 use ir_ast::Module;
 use ir_text::ReadFault;
 use ir_tokens::Position;

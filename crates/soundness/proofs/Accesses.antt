@@ -21,8 +21,8 @@ use Rattle.certs.specs.declared.section.Section.{Section}
 use Rattle.facts.specs.Facts.{FactSet}
 use Rattle.block_rules.specs.declared.signature.RuntimeType.TheVariants as types
 use Rattle.block_rules.specs.declared.instr_context.InstrContext.{InstrContext}
-use Rattle.block_rules.specs.declared.type_kind.TypeKind.{TypeKind}
-use Rattle.block_rules.specs.declared.type_kind.TypeKind.TheVariants.{NoValue, Bits, Reference, AnyReference, Address as AddressKind, Other}
+use Rattle.type_kinds.specs.declared.type_kind.TypeKind.{TypeKind}
+use Rattle.type_kinds.specs.declared.type_kind.TypeKind.TheVariants.{NoValue, Bits, Reference, AnyReference, Address as AddressKind, Other}
 use Rattle.block_rules.specs.Barriers.{may_read, may_write, read_conditions, write_conditions, after_read_call, after_write}
 use Rattle.block_rules.specs.Calls.{read_call_conditions, write_call_conditions}
 use Rattle.block_rules.specs.Casts.{casts_operand}
@@ -30,7 +30,7 @@ use Rattle.block_rules.specs.Operands as o
 use Rattle.block_rules.specs.Places as r
 use Rattle.block_rules.specs.FirstFailing.{first_failing}
 use Rattle.block_rules.specs.Signature.{is_runtime_type, is_declared_as, is_written_as}
-use Rattle.block_rules.specs.TypeKinds.{kind_of, kind_at, place_kind, is_any_reference, is_pointer, may_be_reference}
+use Rattle.type_kinds.specs.TypeKinds.{kind_of, kind_at, place_kind, is_any_reference, is_pointer, may_be_reference}
 use Rattle.machine.specs.declared.action.Action.{Action}
 use Rattle.machine.specs.declared.answer.Answer.{Answer}
 use Rattle.machine.specs.declared.frame.Frame.{Frame}

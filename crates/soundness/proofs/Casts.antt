@@ -24,17 +24,18 @@ use Rattle.fact_tables.specs.declared.known.Known.{Known}
 use Rattle.fact_tables.specs.declared.known.Known.TheVariants.{Nothing, Number, Cell, Null, Address, GlobalAddress}
 use Rattle.fact_tables.specs.Rows.{known_at, class_at, off_base, values_without}
 use Rattle.facts.specs.Facts.{FactSet, forget, define}
-use Rattle.block_rules.specs.declared.type_kind.TypeKind.{TypeKind}
-use Rattle.block_rules.specs.declared.type_kind.TypeKind.TheVariants.{NoValue, Bits, Reference, AnyReference, Address as AddressKind, Other}
+use Rattle.type_kinds.specs.declared.type_kind.TypeKind.{TypeKind}
+use Rattle.type_kinds.specs.declared.type_kind.TypeKind.TheVariants.{NoValue, Bits, Reference, AnyReference, Address as AddressKind, Other}
 use Rattle.block_rules.specs.declared.instr_context.InstrContext.{InstrContext}
 use Rattle.block_rules.specs.FirstFailing.{first_failing}
 use Rattle.block_rules.specs.declared.rule.Rule.TheVariants.{K1, K2, K19}
 use Rattle.block_rules.specs.Casts as c
 use Rattle.block_rules.specs.Integers.{define_number}
 use Rattle.block_rules.specs.Operands as o
-use Rattle.block_rules.specs.Places.{define_held, first_layout, cell_words, wanted_by_load, each_word}
+use Rattle.type_kinds.specs.WantedWords.{first_layout, cell_words, wanted_by_load, each_word}
+use Rattle.block_rules.specs.Places.{define_held}
 use Rattle.block_rules.specs.Rules.{cast_conditions, after_op}
-use Rattle.block_rules.specs.TypeKinds.{kind_of, kind_held, place_kind, is_bits, is_integer, fits_layout, may_be_reference}
+use Rattle.type_kinds.specs.TypeKinds.{kind_of, kind_held, place_kind, is_bits, is_integer, fits_layout, may_be_reference}
 use Rattle.machine.specs.declared.value.Value.{Value}
 use Rattle.machine.specs.declared.value.Value.TheVariants as value
 use Rattle.machine.specs.declared.frame.Frame.{Frame}

@@ -21,7 +21,7 @@ use Rattle.block_rules.specs.declared.signature.RuntimeType.TheVariants as types
 use Rattle.block_rules.specs.Calls.{all_values, integer_conditions, after_integer_call}
 use Rattle.block_rules.specs.FirstFailing.{first_failing}
 use Rattle.block_rules.specs.Signature.{signature_of, is_runtime_type, is_argument_of, is_declared_as, is_written_as}
-use Rattle.block_rules.specs.TypeKinds.{kind_of}
+use Rattle.type_kinds.specs.TypeKinds.{kind_of}
 use Rattle.machine.specs.declared.frame.Frame.{Frame}
 use Rattle.machine.specs.Asks as a
 use Rattle.machine.specs.Log.{Log}

@@ -16,12 +16,12 @@ use Rattle.fact_tables.specs.declared.known.Known.TheVariants.{Number}
 use Rattle.facts.specs.Facts.{FactSet}
 use Rattle.block_rules.specs.declared.instr_context.InstrContext.{InstrContext}
 use Rattle.block_rules.specs.declared.rule.Rule.TheVariants.{K1, K2, K10}
-use Rattle.block_rules.specs.declared.type_kind.TypeKind.TheVariants.{Bits}
+use Rattle.type_kinds.specs.declared.type_kind.TypeKind.TheVariants.{Bits}
 use Rattle.block_rules.specs.FirstFailing.{first_failing}
 use Rattle.block_rules.specs.Floats.{is_number_of, one_number, two_numbers, converted_number, float_conditions, float_kind}
 use Rattle.block_rules.specs.Operands as o
 use Rattle.block_rules.specs.Rules.{after_op}
-use Rattle.block_rules.specs.TypeKinds.{kind_of, is_integer}
+use Rattle.type_kinds.specs.TypeKinds.{kind_of, is_integer}
 use Rattle.machine.specs.declared.action.Action.TheVariants.{Foreign}
 use Rattle.machine.specs.declared.frame.Frame.{Frame}
 use Rattle.machine.specs.declared.value.Value.TheVariants as value

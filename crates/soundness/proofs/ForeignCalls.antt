@@ -19,13 +19,13 @@ use Rattle.fact_tables.specs.declared.known.Known.TheVariants.{Nothing}
 use Rattle.facts.specs.Facts.{FactSet}
 use Rattle.block_rules.specs.declared.instr_context.InstrContext.{InstrContext}
 use Rattle.block_rules.specs.declared.rule.Rule.TheVariants.{K1, K2, K10}
-use Rattle.block_rules.specs.declared.type_kind.TypeKind.{TypeKind}
-use Rattle.block_rules.specs.declared.type_kind.TypeKind.TheVariants.{NoValue, Bits, Reference, AnyReference, Address, Other}
+use Rattle.type_kinds.specs.declared.type_kind.TypeKind.{TypeKind}
+use Rattle.type_kinds.specs.declared.type_kind.TypeKind.TheVariants.{NoValue, Bits, Reference, AnyReference, Address, Other}
 use Rattle.block_rules.specs.Calls.{all_available, no_slots, is_foreign_argument, is_written_at, is_written_to, foreign_conditions, after_integer_call}
 use Rattle.block_rules.specs.FirstFailing.{first_failing}
 use Rattle.block_rules.specs.Operands as o
 use Rattle.block_rules.specs.Signature.{is_foreign}
-use Rattle.block_rules.specs.TypeKinds.{kind_of, is_void, is_integer, is_pointer}
+use Rattle.type_kinds.specs.TypeKinds.{kind_of, is_void, is_integer, is_pointer}
 use Rattle.machine.specs.declared.action.Action.TheVariants.{Local, Foreign}
 use Rattle.machine.specs.declared.frame.Frame.{Frame}
 use Rattle.machine.specs.declared.value.Value.TheVariants as value

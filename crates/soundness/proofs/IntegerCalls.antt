@@ -18,12 +18,12 @@ use Rattle.facts.specs.Facts.{FactSet}
 use Rattle.block_rules.specs.declared.instr_context.InstrContext.{InstrContext}
 use Rattle.block_rules.specs.declared.rule.Rule.TheVariants.{K1, K2, K10}
 use Rattle.block_rules.specs.declared.signature.RuntimeType.TheVariants as types
-use Rattle.block_rules.specs.declared.type_kind.TypeKind.TheVariants.{Bits}
+use Rattle.type_kinds.specs.declared.type_kind.TypeKind.TheVariants.{Bits}
 use Rattle.block_rules.specs.Calls.{all_available, all_values, no_slots, integer_conditions, after_integer_call}
 use Rattle.block_rules.specs.FirstFailing.{first_failing}
 use Rattle.block_rules.specs.Operands as o
 use Rattle.block_rules.specs.Signature.{signature_of, is_runtime_type, is_argument_of, is_declared_as, is_written_as}
-use Rattle.block_rules.specs.TypeKinds.{kind_of}
+use Rattle.type_kinds.specs.TypeKinds.{kind_of}
 use Rattle.machine.specs.declared.frame.Frame.{Frame}
 use Rattle.machine.specs.declared.value.Value.{Value}
 use Rattle.machine.specs.Asks as a

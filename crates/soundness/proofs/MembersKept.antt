@@ -7,7 +7,7 @@ use Rattle.shadow_stack.specs.Slots.{SlotTable}
 use Rattle.certs.specs.declared.section.Section.{Section}
 use Rattle.facts.specs.Facts.{FactSet}
 use Rattle.block_rules.specs.Signature.{callee_of}
-use Rattle.block_rules.specs.TypeKinds.{kind_of}
+use Rattle.type_kinds.specs.TypeKinds.{kind_of}
 use Rattle.block_rules.specs.Rules.{after_op}
 use Rattle.soundness.proofs.Members.{call_members, cast_members, after_element_members, select_members}
 use Rattle.soundness.proofs.Memory.{memory_members}

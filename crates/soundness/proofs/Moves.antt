@@ -20,12 +20,12 @@ use Rattle.fact_tables.specs.declared.known.Known.{Known}
 use Rattle.fact_tables.specs.declared.known.Known.TheVariants.{Nothing, Number, Cell, Null, Address, GlobalAddress}
 use Rattle.fact_tables.specs.Rows.{known_at, slot_at, class_at, lost_class, holds_class}
 use Rattle.facts.specs.Facts.{FactSet, forget, set_known, add_class, load_held, load_slot, hold, store_slot}
-use Rattle.block_rules.specs.declared.type_kind.TypeKind.{TypeKind}
-use Rattle.block_rules.specs.declared.type_kind.TypeKind.TheVariants.{NoValue, Bits, Reference, AnyReference, Address as AddressKind, Other}
+use Rattle.type_kinds.specs.declared.type_kind.TypeKind.{TypeKind}
+use Rattle.type_kinds.specs.declared.type_kind.TypeKind.TheVariants.{NoValue, Bits, Reference, AnyReference, Address as AddressKind, Other}
 use Rattle.block_rules.specs.Operands as o
 use Rattle.block_rules.specs.Places as r
 use Rattle.block_rules.specs.Rules.{after_memory}
-use Rattle.block_rules.specs.TypeKinds.{kind_of, kind_held, is_integer, is_any_reference}
+use Rattle.type_kinds.specs.TypeKinds.{kind_of, kind_held, is_integer, is_any_reference}
 use Rattle.machine.specs.declared.value.Value.{Value}
 use Rattle.machine.specs.declared.value.Value.TheVariants as value
 use Rattle.machine.specs.declared.frame.Frame.{Frame}

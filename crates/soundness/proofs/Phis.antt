@@ -15,10 +15,10 @@ use Rattle.shadow_stack.specs.Slots.{SlotTable, slot_of, is_opaque_address}
 use Rattle.block_rules.specs.declared.rule.Rule.{Rule}
 use Rattle.block_rules.specs.declared.rule.Rule.TheVariants.{K2, K16}
 use Rattle.block_rules.specs.declared.instr_context.InstrContext.{InstrContext}
-use Rattle.block_rules.specs.declared.type_kind.TypeKind.{TypeKind}
-use Rattle.block_rules.specs.declared.type_kind.TypeKind.TheVariants.{NoValue, Bits, Reference, AnyReference, Address, Other}
+use Rattle.type_kinds.specs.declared.type_kind.TypeKind.{TypeKind}
+use Rattle.type_kinds.specs.declared.type_kind.TypeKind.TheVariants.{NoValue, Bits, Reference, AnyReference, Address, Other}
 use Rattle.block_rules.specs.FirstFailing.{first_failing}
-use Rattle.block_rules.specs.TypeKinds.{kind_of, is_integer, may_be_reference}
+use Rattle.type_kinds.specs.TypeKinds.{kind_of, is_integer, may_be_reference}
 use Rattle.block_rules.specs.Integers.{may_choose}
 use Rattle.block_rules.specs.Rules.{phi_conditions, is_entry, may_come_in, all_come_in}
 use Rattle.block_rules.specs.Certified.{PhisPass, stands}

@@ -6,11 +6,11 @@ use Rattle.ir_ast.specs.declared.module.Module.{Module}
 use Rattle.pools.specs.declared.word_kind.WordKind.{WordKind}
 use Rattle.pools.specs.declared.word_kind.WordKind.TheVariants as word
 use Rattle.types.specs.References.{pointee, referenced_layout}
-use Rattle.block_rules.specs.declared.type_kind.TypeKind.{TypeKind}
-use Rattle.block_rules.specs.declared.type_kind.TypeKind.TheVariants.{NoValue, Bits, Reference, AnyReference, Address as AddressKind, Other}
+use Rattle.type_kinds.specs.declared.type_kind.TypeKind.{TypeKind}
+use Rattle.type_kinds.specs.declared.type_kind.TypeKind.TheVariants.{NoValue, Bits, Reference, AnyReference, Address as AddressKind, Other}
 use Rattle.block_rules.specs.Casts as c
-use Rattle.block_rules.specs.Places.{wanted_by_load, holds_wanted}
-use Rattle.block_rules.specs.TypeKinds.{kind_of, kind_at, kind_held, place_kind, fits_layout, layout_of_kind, is_any_reference, may_be_reference}
+use Rattle.type_kinds.specs.WantedWords.{wanted_by_load, holds_wanted}
+use Rattle.type_kinds.specs.TypeKinds.{kind_of, kind_at, kind_held, place_kind, fits_layout, layout_of_kind, is_any_reference, may_be_reference}
 use Rattle.machine.specs.Asks as a
 use Rattle.machine.specs.Kinds as k
 use Rattle.machine.specs.Kinds.{refers_to, is_layout}

@@ -19,7 +19,7 @@ use Rattle.shadow_stack.specs.declared.draft.Origin.TheVariants.{Nowhere, Slot, 
 use Rattle.shadow_stack.specs.Hops.{hops_slot}
 use Rattle.shadow_stack.specs.Slots.{SlotTable, slots_of, slot_of, held_type, is_among, is_reference_held, origin_of, origin_at, hops, slot_at, put, recorded_op, recorded, recorded_blocks, draft_of}
 use Rattle.block_rules.specs.Rules.{may_hold, names_root}
-use Rattle.block_rules.specs.TypeKinds.{kind_of, is_integer}
+use Rattle.type_kinds.specs.TypeKinds.{kind_of, is_integer}
 use Rattle.machine.specs.declared.value.Value.{Value}
 use Rattle.machine.specs.declared.value.Value.TheVariants as value
 use Rattle.machine.specs.Kinds as k

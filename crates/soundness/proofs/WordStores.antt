@@ -24,15 +24,16 @@ use Rattle.fact_tables.specs.declared.known.Known.{Known}
 use Rattle.fact_tables.specs.declared.known.Known.TheVariants.{Nothing, Number, Cell, Null, Address, GlobalAddress}
 use Rattle.fact_tables.specs.Rows.{known_at, class_at}
 use Rattle.facts.specs.Facts.{FactSet, drop_fresh_of}
-use Rattle.block_rules.specs.declared.wanted_word.WantedWord.{WantedWord}
-use Rattle.block_rules.specs.declared.type_kind.TypeKind.{TypeKind}
-use Rattle.block_rules.specs.declared.type_kind.TypeKind.TheVariants.{NoValue, Bits, Reference, AnyReference, Address as AddressKind, Other}
+use Rattle.type_kinds.specs.declared.wanted_word.WantedWord.{WantedWord}
+use Rattle.type_kinds.specs.declared.type_kind.TypeKind.{TypeKind}
+use Rattle.type_kinds.specs.declared.type_kind.TypeKind.TheVariants.{NoValue, Bits, Reference, AnyReference, Address as AddressKind, Other}
 use Rattle.block_rules.specs.Barriers.{is_own_place, needs_no_barrier}
 use Rattle.block_rules.specs.Integers.{below_of}
 use Rattle.block_rules.specs.Operands as o
 use Rattle.block_rules.specs.Places as r
+use Rattle.type_kinds.specs.WantedWords.{holds_wanted, each_word, wanted_by_store}
 use Rattle.block_rules.specs.Rules.{after_memory}
-use Rattle.block_rules.specs.TypeKinds.{kind_of, is_integer, fits_layout, may_be_reference}
+use Rattle.type_kinds.specs.TypeKinds.{kind_of, is_integer, fits_layout, may_be_reference}
 use Rattle.machine.specs.declared.action.Action.TheVariants.{Write, StorePlain, Wrong}
 use Rattle.machine.specs.declared.frame.Frame.{Frame}
 use Rattle.machine.specs.declared.value.Reference.{Reference as Ref}
@@ -121,7 +122,7 @@ module _ (heap : Setup) (p : LaidOut) (certs : List Section) (reaches : Bool) (f
   reference_stored stored layout (operand.CastGlobal from symbol to) refers i fit = absurd (no_value _ i.typed)
 
   -- a word that takes the type and the value takes it so
-  taken : (stored : ℕ) (x : Operand) → IsStored p f table facts stored x → (kind : TypeKind) → kind_of p.of_module stored ≡ kind → (q : Option WordKind) → r.holds_wanted (r.wanted_by_store kind) q ≡ true → r.fits_word q (r.wanted_by_value (o.known_of facts x)) ≡ true
+  taken : (stored : ℕ) (x : Operand) → IsStored p f table facts stored x → (kind : TypeKind) → kind_of p.of_module stored ≡ kind → (q : Option WordKind) → holds_wanted (wanted_by_store kind) q ≡ true → r.fits_word q (r.wanted_by_value (o.known_of facts x)) ≡ true
       → IsTaken heap p guarded log stored (value_of p.of_module frame.registers stored x) q
   taken stored x i NoValue is q e fit = absurd cc
   taken stored x i (Bits bits) is None e fit = absurd cc
@@ -249,8 +250,8 @@ module _ (heap : Setup) (p : LaidOut) (certs : List Section) (reaches : Bool) (f
     by (Cell class layout stale) is stores = absurd cc
     by Null is stores = absurd cc
     by (Address base words) is stores =
-        let wants : ℕ → WantedWord = λ layout. r.wanted_by_store (kind_of p.of_module stored) in
-        let fits_each : (class layout : ℕ) → known_at facts.values base ≡ Cell class layout false → (r.each_word (wants layout) p.layouts layout words ≡ true) × (r.fits_words p.layouts layout words (r.wanted_by_value (o.known_of facts x)) ≡ true) = λ class layout known. and_parts (r.each_word (wants layout) p.layouts layout words) (r.fits_words p.layouts layout words (r.wanted_by_value (o.known_of facts x)))
+        let wants : ℕ → WantedWord = λ layout. wanted_by_store (kind_of p.of_module stored) in
+        let fits_each : (class layout : ℕ) → known_at facts.values base ≡ Cell class layout false → (each_word (wants layout) p.layouts layout words ≡ true) × (r.fits_words p.layouts layout words (r.wanted_by_value (o.known_of facts x)) ≡ true) = λ class layout known. and_parts (each_word (wants layout) p.layouts layout words) (r.fits_words p.layouts layout words (r.wanted_by_value (o.known_of facts x)))
         (subst (λ y. r.stores_base p (kind_of p.of_module stored) (o.known_of facts x) words y ≡ true) known stores) in
         let b = on_base heap p certs reaches f table guarded log fits cells facts frame h written place s base words is wants (λ class layout known. (fits_each class layout known).0) in
         let l = b.located in
@@ -264,10 +265,10 @@ module _ (heap : Setup) (p : LaidOut) (certs : List Section) (reaches : Bool) (f
           own = λ e. b.fresh (fresh_base base b.class b.layout b.known (subst (λ y. is_own_place facts y ≡ true) is e));
         }
     by (GlobalAddress symbol) is stores =
-        let each = and_parts (r.holds_wanted (r.wanted_by_store (kind_of p.of_module stored)) (global_word p.of_module symbol)) (r.fits_word (global_word p.of_module symbol) (r.wanted_by_value (o.known_of facts x))) stores in
+        let each = and_parts (holds_wanted (wanted_by_store (kind_of p.of_module stored)) (global_word p.of_module symbol)) (r.fits_word (global_word p.of_module symbol) (r.wanted_by_value (o.known_of facts x))) stores in
         record {
           kind = global_word p.of_module symbol;
-          touches = on_global heap p certs reaches f table guarded log fits cells facts frame h written place s symbol is (r.wanted_by_store (kind_of p.of_module stored)) each.0;
+          touches = on_global heap p certs reaches f table guarded log fits cells facts frame h written place s symbol is (wanted_by_store (kind_of p.of_module stored)) each.0;
           takes_it = taken stored x i (kind_of p.of_module stored) refl (global_word p.of_module symbol) each.0 each.1;
           own = λ e. absurd (let z = subst (λ y. is_own_place facts y ≡ true) is e in cc);
         }

@@ -1,6 +1,6 @@
 use Rattle.std.proofs.Common.{◌∷◌, [], ◌++◌, take, ◌∙◌, ap, sym, arith}
 use Rattle.std.proofs.lemmas.List.{map_more}
-use Rattle.block_rules.specs.TypeKinds.{kind_of}
+use Rattle.type_kinds.specs.TypeKinds.{kind_of}
 use Rattle.block_rules.specs.Edges.{operand_from, known_comes_in, phi_comes_in, comes_in}
 use Rattle.block_check.specs.PhiOperands.{entries_at}
 use Rattle.block_check.proofs.PhiSteps.{phi_at}

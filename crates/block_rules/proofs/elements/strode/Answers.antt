@@ -1,5 +1,5 @@
 use Rattle.std.proofs.Common.{None, sym, ◌∙◌, arith}
-use Rattle.block_rules.proofs.Members.{bounded}
+use Rattle.type_kinds.proofs.Members.{bounded}
 use Rattle.block_rules.proofs.Strides.{strode_start, strode_in, strode_end}
 use Rattle.block_rules.proofs.elements.strode.Goals as goal
 

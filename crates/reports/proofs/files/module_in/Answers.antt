@@ -1,4 +1,4 @@
-use Rattle.std.proofs.Common.{Bool, sym, subst, ap, ◌∙◌}
+use Rattle.std.proofs.Common.{Bool, true, sym, subst, ap, ◌∙◌}
 use Rattle.ir_text.specs.Read.{IsTextIn, IsTextAs, IsFaultAs}
 use Rattle.reports.specs.Files.{bytes_of}
 use Rattle.reports.proofs.files.module_in.Goals as goal

@@ -1,7 +1,7 @@
 use Rattle.std.proofs.Common.{true, false, sym, ap, ◌∙◌, arith}
-use Rattle.block_rules.specs.Places.{holds_wanted}
-use Rattle.block_rules.proofs.Members.{bounded, each_start, each_some, each_none}
-use Rattle.block_rules.proofs.places.each_word.Goals as goal
+use Rattle.type_kinds.specs.WantedWords.{holds_wanted}
+use Rattle.type_kinds.proofs.Members.{bounded, each_start, each_some, each_none}
+use Rattle.type_kinds.proofs.wanted_words.each_word.Goals as goal
 
 pub loop-word-init : goal.loop-word-init
 loop-word-init c = each_start c.args.wanted.now c.args.layouts.now c.args.layout c.args.words.now

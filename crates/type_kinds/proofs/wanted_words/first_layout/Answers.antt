@@ -1,7 +1,7 @@
 use Rattle.std.proofs.Common.{sym, ap, ◌∙◌}
-use Rattle.block_rules.specs.Places.{layout_of_word, cell_words}
-use Rattle.block_rules.proofs.Members.{layout_of_first, first_found}
-use Rattle.block_rules.proofs.places.first_layout.Goals as goal
+use Rattle.type_kinds.specs.WantedWords.{layout_of_word, cell_words}
+use Rattle.type_kinds.proofs.Members.{layout_of_first, first_found}
+use Rattle.type_kinds.proofs.wanted_words.first_layout.Goals as goal
 
 pub returns-in_err-word : goal.returns-in_err-word
 returns-in_err-word c =

@@ -1,0 +1,2 @@
+pub mod TypeKinds
+pub mod WantedWords
