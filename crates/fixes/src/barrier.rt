@@ -11,21 +11,19 @@ use scenes::{FunctionPlaces, Scene, Source};
 use shadow_stack::slots_of;
 use std::alloc::{AllocError, Global};
 
-/// The changes of a refused store, before which this is known.
+/// The changes of a refused store, before which this is known, in a function whose instructions are at these places.
 fn changes_by_facts<'a>(
     pen: Pen,
     source: Source<'a>,
+    places: &'a FunctionPlaces,
     context: RuleContext<'a>,
     facts: &'a Facts,
     refusal: Refusal,
 ) -> Result<Vec<Change>, AllocError> {
-    let mut places = FunctionPlaces::none();
-    let of_module = context.module();
-    places.renew(pen.alloc, &source, of_module, refusal.func)?;
     let scene = Scene {
         pen,
         source,
-        places: Some(&places),
+        places: Some(places),
         certificate: NamedText {
             path: "",
             text: &[],
@@ -34,7 +32,22 @@ fn changes_by_facts<'a>(
         facts,
         refusal,
     };
-    let changes = store_changes(&scene);
+    store_changes(&scene)
+}
+
+/// The changes of a refused store, before which this is known, in a function that is read for its places.
+fn changes_read(
+    pen: Pen,
+    source: Source,
+    context: RuleContext,
+    facts: &Facts,
+    refusal: Refusal,
+) -> Result<Vec<Change>, AllocError> {
+    let mut places = FunctionPlaces::none();
+    let changes = match places.renew(pen.alloc, &source, context.module(), refusal.func) {
+        Ok(()) => changes_by_facts(pen, source, &places, context, facts, refusal),
+        Err(refused) => Err(refused),
+    };
     drop(places);
     changes
 }
@@ -67,7 +80,7 @@ fn changes_in_source(
     );
     let changes = match facts {
         Ok(facts) => {
-            let changes = changes_by_facts(pen, source, context, &facts, refusal);
+            let changes = changes_read(pen, source, context, &facts, refusal);
             drop(facts);
             changes
         }

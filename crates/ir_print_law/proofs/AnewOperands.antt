@@ -23,7 +23,7 @@ use Rattle.ir_forms.specs.Lists.{at_round, argument_of, argument, argument_takes
 use Rattle.ir_forms.specs.Written.{word_of}
 use Rattle.ir_forms.specs.declared.written.Word.{Word}
 use Rattle.ir_print_law.proofs.Seats.{Seat, Beside, grown_itself, run_same, float_seen_same, past_run_either, spelling_same, sees_same, after_same}
-use Rattle.ir_print_law.proofs.Sim.{Between, Any, Equal, At, Both, Same, Pairs, past, both, and, then, then_said, give, gives, refuses, so, looks, looks_any, by_kind, kinds, lists, lists_with, lists_by}
+use Rattle.ir_print_law.proofs.Sim.{Between, Any, Equal, At, Both, Same, past, both, and, then, then_said, give, gives, refuses, so, looks, looks_any, by_kind, kinds, lists, lists_with, lists_by}
 use Rattle.ir_print_law.proofs.AnewSteps.{steps, takes, skip_same, expect_same, rule}
 use Rattle.ir_print_law.proofs.Names.{outside_same, used_value_at, used_global_same}
 use Rattle.ir_print_law.proofs.AnewTypes.{Written, bits_same, any_type_at, scalar_at, pointer_type_at}
@@ -208,19 +208,18 @@ module _ (s : Seat) where
       and s (looks_any s (is_address_outside a.operand) (is_address_outside b.operand) pure pure i j (λ t r. gives s t r i j))
       (λ t r. gives s (kept_argument c.left (word_of v) a t) (kept_argument d.left (word_of u) b r))))
 
+  -- nothing is asked of what came before
+  abbrev Anyhow : Input → Input → DottedArguments → DottedArguments → Type 0
+  Anyhow i j c d = Unit {0}
+
   pub dotted_arguments_at : (n m : ℕ) → Both s Any (dotted_arguments n) (dotted_arguments m)
   unfolding dotted_arguments
   dotted_arguments_at n m i j =
-      and s (lists_with s Anyhow ends_dotted dotted_argument dotted_takes after_dotted pairs (record { left = n }) (record { left = m }) i j tt)
-      (λ xs ys. gives s (filter_map (λ x. x) xs) (filter_map (λ x. x) ys)) where
-        Anyhow : Input → Input → DottedArguments → DottedArguments → Type 0
-        Anyhow i j c d = Unit {0}
-
-        pairs : Pairs s Anyhow ends_dotted dotted_argument after_dotted
-        pairs = record {
-          stops = λ i j c d one b. sees_same s k.CloseRound i.cursor j.cursor b.along;
-          goes = λ i j c d one. so s {V = Any} (λ o p a b v. tt) (dotted_at c d i j);
-        }
+      and s (lists_with s Anyhow ends_dotted dotted_argument dotted_takes after_dotted (record {
+        stops = λ i j c d one b. sees_same s k.CloseRound i.cursor j.cursor b.along;
+        goes = λ i j c d one. so s {V = Any} (λ o p a b v. tt) (dotted_at c d i j);
+      }) (record { left = n }) (record { left = m }) i j tt)
+      (λ xs ys. gives s (filter_map (λ x. x) xs) (filter_map (λ x. x) ys))
 
   -- ---- dots
 

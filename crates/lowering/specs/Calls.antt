@@ -45,22 +45,26 @@ abbrev pub gcwrite_text : Module → (locals : List Text) → Instr → (argumen
 gcwrite_text m locals instr (value ∷ base ∷ place ∷ []) = barrier_line m locals value place
 gcwrite_text m locals instr arguments = instruction_line m locals instr
 
+-- a call up to its first argument
+abbrev pub call_head : Module → (locals : List Text) → Instr → Call → Text
+call_head m locals instr call = codes "  " ++ result_text locals instr.result ++ codes "call " ++ type_text m call.returned ++ 32 ∷ global_text m call.callee ++ 40 ∷ []
+
 -- a call of a function of an integer and a flag; for LLVM the flag would leave a result open, so it gets none that is set
 abbrev pub flagged_line : (recorded : Bool) → Module → (locals : List Text) → Instr → Call → (taken : Argument) → Text
-flagged_line recorded m locals instr call taken =
-    local_line recorded ++ codes "  " ++ result_text locals instr.result ++ codes "call " ++ type_text m call.returned ++ 32 ∷ global_text m call.callee
-    ++ 40 ∷ argument_text m locals taken ++ codes ", i1 false)\n"
+flagged_line recorded m locals instr call taken = local_line recorded ++ call_head m locals instr call ++ argument_text m locals taken ++ codes ", i1 false)\n"
 
 -- a call of a function of integers, by what it takes; it makes no step on shared words
 abbrev pub integers_text : (recorded : Bool) → Module → (locals : List Text) → Instr → Call → IntegersTaken → (arguments : List Argument) → Text
 integers_text recorded m locals instr call Flagged (taken ∷ flag ∷ []) = flagged_line recorded m locals instr call taken
 integers_text recorded m locals instr call _ arguments = plain_line recorded m locals instr
 
+-- the end of a call of dg_alloc: the place of a layout in the table of layouts
+abbrev pub layout_end : (layout : ℕ) → Text
+layout_end layout = codes " " ++ decimal layout ++ codes ")\n"
+
 -- a call of dg_alloc for this layout, by its place in the table of layouts
 abbrev pub placed_line : Module → (locals : List Text) → Instr → Call → (number : Argument) → (layout : ℕ) → Text
-placed_line m locals instr call number layout =
-    codes "  " ++ result_text locals instr.result ++ codes "call " ++ type_text m call.returned ++ 32 ∷ global_text m call.callee
-    ++ 40 ∷ type_text m number.written ++ 32 ∷ decimal layout ++ codes ")\n"
+placed_line m locals instr call number layout = call_head m locals instr call ++ type_text m number.written ++ layout_end layout
 
 -- the same where a layout is meant
 abbrev pub placed_by : Module → (locals : List Text) → Instr → Call → (number : Argument) → (layout : Option ℕ) → Text

@@ -1,5 +1,6 @@
 //! How calls are lowered.
 ghost use Rattle.std.specs.Prelude.{◌≡◌, ◌++◌, ◌∷◌, [], OnOk};
+ghost use Rattle.std.specs.Fmt.{decimal};
 ghost use Rattle.lowering.specs.Calls as spec;
 ghost use Rattle.types.specs.LayoutNumbers.{layout_meant};
 
@@ -105,6 +106,25 @@ fn put_gcwrite(
     }
 }
 
+/// A call up to its first argument.
+fn put_call_head(
+    alloc: Global,
+    out: &mut Vec<u8>,
+    scope: &Scope,
+    instr: &Instr,
+    call: &Call,
+) -> Result<(), AllocError>
+    ensures { OnOk result (out.new.items ≡ out.old.items ++ spec.call_head scope.now.of_module.now scope.now.locals.now instr.now call.now) }
+{
+    out.extend_from_slice(b"  ")?;
+    put_result(out, scope.locals, instr.result)?;
+    out.extend_from_slice(b"call ")?;
+    put_type(alloc, out, scope.of_module, call.returned)?;
+    out.push(b' ')?;
+    put_global(out, scope.of_module, call.callee, Blank::Kept)?;
+    out.extend_from_slice(b"(")
+}
+
 /// A call of a function of an integer and a flag, which for LLVM would leave a result open.
 fn put_flagged(
     alloc: Global,
@@ -117,13 +137,7 @@ fn put_flagged(
     ensures { OnOk result (out.new.items ≡ out.old.items ++ spec.flagged_line scope.now.recorded scope.now.of_module.now scope.now.locals.now instr.now call.now taken.now) }
 {
     put_local_step(out, scope.recorded)?;
-    out.extend_from_slice(b"  ")?;
-    put_result(out, scope.locals, instr.result)?;
-    out.extend_from_slice(b"call ")?;
-    put_type(alloc, out, scope.of_module, call.returned)?;
-    out.push(b' ')?;
-    put_global(out, scope.of_module, call.callee, Blank::Kept)?;
-    out.push(b'(')?;
+    put_call_head(alloc, out, scope, instr, call)?;
     put_argument(alloc, out, scope.of_module, scope.locals, taken)?;
     out.extend_from_slice(b", i1 false)\n")
 }
@@ -147,6 +161,22 @@ fn put_integers(
     }
 }
 
+/// The place of a layout in the table of layouts.
+fn put_layout(alloc: Global, out: &mut Vec<u8>, layout: LayoutId) -> Result<(), AllocError>
+    ensures { OnOk result (out.new.items ≡ out.old.items ++ decimal layout) }
+{
+    put_number(alloc, out, layout.number() as u64)
+}
+
+/// The end of a call of dg_alloc: the place of a layout in the table of layouts.
+fn put_layout_end(alloc: Global, out: &mut Vec<u8>, layout: LayoutId) -> Result<(), AllocError>
+    ensures { OnOk result (out.new.items ≡ out.old.items ++ spec.layout_end layout) }
+{
+    out.extend_from_slice(b" ")?;
+    put_layout(alloc, out, layout)?;
+    out.extend_from_slice(b")\n")
+}
+
 /// A call of dg_alloc for this layout, by its place in the table of layouts.
 fn put_placed(
     alloc: Global,
@@ -158,17 +188,9 @@ fn put_placed(
 ) -> Result<(), AllocError>
     ensures { OnOk result (out.new.items ≡ out.old.items ++ spec.placed_line scope.now.of_module.now scope.now.locals.now instr.now call.now placed.number placed.layout) }
 {
-    out.extend_from_slice(b"  ")?;
-    put_result(out, scope.locals, instr.result)?;
-    out.extend_from_slice(b"call ")?;
-    put_type(alloc, out, scope.of_module, call.returned)?;
-    out.push(b' ')?;
-    put_global(out, scope.of_module, call.callee, Blank::Kept)?;
-    out.push(b'(')?;
+    put_call_head(alloc, out, scope, instr, call)?;
     put_type(alloc, out, scope.of_module, placed.number.written)?;
-    out.push(b' ')?;
-    put_number(alloc, out, placed.layout.number() as u64)?;
-    out.extend_from_slice(b")\n")
+    put_layout_end(alloc, out, placed.layout)
 }
 
 /// The same where a layout is meant.

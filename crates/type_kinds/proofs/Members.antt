@@ -7,7 +7,6 @@ use Rattle.pools.specs.Layouts.{kind_of_word}
 use Rattle.pools.specs.WordSets.{has_word}
 use Rattle.pools.specs.declared.word_kind.WordKind.{WordKind}
 use Rattle.pools.specs.declared.word_set.WordSet.{WordSet}
-use Rattle.block_rules.specs.Elements.{lie_below}
 use Rattle.type_kinds.specs.WantedWords.{each_word, first_layout, holds_wanted, layout_of_word, cell_words}
 use Rattle.type_kinds.specs.declared.wanted_word.WantedWord.{WantedWord}
 

@@ -5,18 +5,12 @@ use Rattle.lowering.proofs.calls.put_flagged.Goals as goal
 
 pub returns : goal.returns
 returns c =
-    on_ok_weaker c.extend_from_slice-3.result (
-    λ (last : c.extend_from_slice-3.new.self.items ≡ c.put_argument.new.out.items ++ codes ", i1 false)\n").
+    on_ok_weaker c.extend_from_slice.result (
+    λ (last : c.extend_from_slice.new.self.items ≡ c.put_argument.new.out.items ++ codes ", i1 false)\n").
     rw (
       last,
       c.in_ok-put_argument.ensures,
-      c.in_ok-push-2.ensures.items,
-      c.in_ok-put_global.ensures,
-      c.in_ok-push.ensures.items,
-      c.in_ok-put_type.ensures,
-      c.in_ok-extend_from_slice-2.ensures.items,
-      c.in_ok-put_result.ensures,
-      c.in_ok-extend_from_slice.ensures.items,
+      c.in_ok-put_call_head.ensures,
       c.in_ok-put_local_step.ensures,
     ) (simp append_assoc)
-    ) (on_ok_items c.extend_from_slice-3.result (c.put_argument.new.out.items ++ codes ", i1 false)\n") c.extend_from_slice-3.new.self.items c.put_argument.new.out.items c.extend_from_slice-3.ensures.items)
+    ) (on_ok_items c.extend_from_slice.result (c.put_argument.new.out.items ++ codes ", i1 false)\n") c.extend_from_slice.new.self.items c.put_argument.new.out.items c.extend_from_slice.ensures.items)

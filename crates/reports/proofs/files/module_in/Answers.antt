@@ -1,6 +1,6 @@
 use Rattle.std.proofs.Common.{Bool, true, sym, subst, ap, ◌∙◌}
 use Rattle.ir_text.specs.Read.{IsTextIn, IsTextAs, IsFaultAs}
-use Rattle.reports.specs.Files.{bytes_of}
+use Rattle.reports.specs.Files.{bytes_of, keeps}
 use Rattle.reports.proofs.files.module_in.Goals as goal
 
 pub returns-in-Ok-clause-ok : goal.returns-in-Ok-clause-ok
@@ -19,5 +19,5 @@ returns-in-Err-clause-err c =
     let e = c.in-Err.fault in (
       text,
       sym (c.in-Some.ensures ∙ ap bytes_of c.file_of-file.ensures),
-      λ granted. subst (λ (wide : Bool). IsFaultAs _ wide text e) c.is_wide.ensures (subst (λ (kept : Bool). IsFaultAs kept c.is_wide.result text e) c.keeps.ensures (c.in-Err.ensures.fault granted)),
+      λ granted. subst (λ (wide : Bool). IsFaultAs (keeps c.args.files.now.of_module) wide text e) c.is_wide.ensures (subst (λ (kept : Bool). IsFaultAs kept c.is_wide.result text e) c.keeps.ensures (c.in-Err.ensures.fault granted)),
     )
