@@ -228,7 +228,7 @@ class Reader:
             self.compute(name, word, rest, state)
 
     def call(self, name, rest, state):
-        kind, called = re.match(r"call (\S+) @([\w.$]+)", rest).groups()
+        kind, called = re.match(r"call (\S+) (?:\([^()]*\) )?@([\w.$]+)", rest).groups()
         state.bound(name, 0 if INTEGER.match(kind) else None)
         if REFERENCE.match(kind):
             state.define(name, nonnull=called not in ("dg_alloc", "llvm.gcread"))
@@ -247,6 +247,8 @@ class Reader:
         elif word == "and":
             constants = [int(operand) + 1 for operand in re.findall(r" (\d+)(?=,|$)", rest)]
             state.bound(name, min(constants, default=None))
+        elif word == "urem" and rest.split()[-1].isdigit():
+            state.bound(name, int(rest.split()[-1]))
         else:
             state.bound(name, None)
 

@@ -103,7 +103,7 @@ def array_of(kind):
 
 def scalar_size(kind):
     """The bytes of a number or a pointer, and what its place is a multiple of."""
-    bits = 64 if kind == "ptr" else int(kind[1:]) if re.match(r"i\d+$", kind) else 0
+    bits = {"ptr": 64, "double": 64, "float": 32}.get(kind) or (int(kind[1:]) if re.match(r"i\d+$", kind) else 0)
     if bits == 0:
         sys.exit(f"fields.py: a field of type {kind}")
     return max(1, 1 << (bits - 1).bit_length() >> 3)

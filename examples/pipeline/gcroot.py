@@ -380,7 +380,7 @@ def is_opaque(text):
 
 def module_of(text, names=None):
     """The module of these functions, or of all, as gcroot code."""
-    types = [plain(line) for line in text.split("\n") if re.match(r"%struct\.\w+ = type \{", line)]
+    types = [plain(line) for line in text.split("\n") if re.match(r"%struct\.\w+ = type (\{|opaque)", line)]
     globals_of = [line if DATA.match(line) else plain(line) for line in text.split("\n") if re.match(r"@\S+ = ", line)]
     layouts = [re.match(r"%struct\.(\w+)", line)[1] for line in types]
     functions = functions_of(text)
@@ -402,11 +402,11 @@ def without_copies(text):
 
 
 def outside_of(text):
-    """The lines that declare functions outside of the program which give a number or nothing, by their names."""
+    """The lines that declare functions outside of the program which give a number or nothing, and LLVM's functions of numbers, by their names."""
     outside = {}
     for line in map(plain, re.findall(r"^declare [^\n]*", text, re.M)):
         found = re.match(r"declare (void|i\d+|float|double) @([\w.$]+)\((.*)\)$", line)
-        if found and not found[2].startswith(("llvm.", "new_")):
+        if found and not found[2].startswith("new_") and (found[1] != "void" or not found[2].startswith("llvm.")):
             outside[found[2]] = line
     return outside
 
