@@ -235,7 +235,7 @@ end_conditions p f slots here facts (end.Switch written value otherwise cases) =
     ∷ (K12, here.may_move_references) ∷ []
 end_conditions p f slots here facts end.Unreachable = (K12, here.may_move_references) ∷ []
 end_conditions p f slots here facts end.ReturnVoid =
-    (K2, is_void (kind_of p.of_module f.returned)) ∷ (K12, here.may_move_references) ∷ []
+    (K2, is_void (kind_of p.of_module f.returned)) ∷ (K12, here.may_move_references) ∷ (K14, says_what_it_is false here.promised) ∷ []
 end_conditions p f slots here facts (end.Return argument) =
     (K1, is_available slots facts argument.operand)
     ∷ (K2, is_passed p.of_module f slots facts argument.written argument.operand && (argument.written == f.returned))
