@@ -68,7 +68,7 @@ is_entry f written v _ = false
 abbrev pub may_come_in : Module → Function → SlotTable → (written : ℕ) → Operand → Bool
 may_come_in m f slots written (Written c) = constant_fits c (kind_of m written)
 may_come_in m f slots written (Local v) = is_entry f written v (slice_get f.sorts v) && not (is_some (slot_of slots v)) && not (is_opaque_address m slots written (Local v))
-may_come_in m f slots written operand = is_outside_operand m operand
+may_come_in m f slots written operand = is_outside_operand m operand && is_pointer (kind_of m written)
 
 -- each entry of a phi
 abbrev pub all_come_in : Module → Function → SlotTable → (written : ℕ) → List Incoming → Bool
@@ -172,7 +172,7 @@ element_conditions p f slots here facts x =
           && are_indices p.of_module f slots facts x.indices && no_slots slots x.indices,
     )
     ∷ (K3, is_current facts (known_of facts x.base))
-    ∷ (K5, is_outside_value p.of_module f slots facts x.base_type x.base || may_lead p facts x.source x.indices (known_of facts x.base))
+    ∷ (K5, may_lead p facts x.source x.indices (known_of facts x.base) || is_outside_value p.of_module f slots facts x.base_type x.base)
     ∷ (K10, is_no_slot slots x.base)
     ∷ (K12, here.may_move_references)
     ∷ (K19, casts_operand p.of_module x.base) ∷ []
