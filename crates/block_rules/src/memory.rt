@@ -64,8 +64,8 @@ fn alloca_refusal(
 }
 
 /// Whether a number or an address outside is read at a type of this kind.
-fn is_datum(kind: TypeKind) -> bool
-    ensures { result ≡ is_datum kind }
+fn is_datum(kind: &TypeKind) -> bool
+    ensures { result ≡ is_datum kind.now }
 {
     kind.is_integer() || kind.is_pointer()
 }
@@ -81,7 +81,7 @@ fn loads_outside(
     ensures { result ≡ loads_outside context.now.program.now.of_module context.now.function.now context.now.slots.now facts.now loaded place_type place.now }
 {
     is_outside_value(context, facts, place_type, place)
-        && is_datum(TypeKind::of(context.module(), loaded))
+        && is_datum(&TypeKind::of(context.module(), loaded))
 }
 
 fn load_refusal(

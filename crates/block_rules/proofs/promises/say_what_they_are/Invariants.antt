@@ -4,5 +4,5 @@ use Rattle.block_rules.proofs.promises.say_what_they_are.Given as goal
 
 abbrev pub invariant-loop-argument : goal.invariant-loop-argument
 invariant-loop-argument l =
-    say_what_they_are l.context.program.of_module l.context.function l.context.slots l.facts l.fn.arguments l.fn.promises
-    ≡ say_what_they_are l.context.program.of_module l.context.function l.context.slots l.facts (drop l.argument-index l.arguments) l.rest
+    say_what_they_are l.context.program.now.of_module l.context.function.now l.context.slots.now l.facts l.fn.arguments l.fn.promises
+    ≡ say_what_they_are l.context.program.now.of_module l.context.function.now l.context.slots.now l.facts (drop l.argument-index l.arguments) l.rest
