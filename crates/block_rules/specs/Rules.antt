@@ -172,7 +172,7 @@ element_conditions p f slots here facts x =
           && are_indices p.of_module f slots facts x.indices && no_slots slots x.indices,
     )
     ∷ (K3, is_current facts (known_of facts x.base))
-    ∷ (K5, is_outside_value p.of_module f slots facts x.base_type x.base || may_lead p facts x.source x.indices (known_of facts x.base))
+    ∷ (K5, may_lead p facts x.source x.indices (known_of facts x.base) || is_outside_value p.of_module f slots facts x.base_type x.base)
     ∷ (K10, is_no_slot slots x.base)
     ∷ (K12, here.may_move_references)
     ∷ (K19, casts_operand p.of_module x.base) ∷ []
