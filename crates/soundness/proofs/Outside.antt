@@ -19,7 +19,7 @@ use Rattle.shadow_stack.specs.Slots.{SlotTable, slot_of}
 use Rattle.fact_tables.specs.declared.known.Known.{Known}
 use Rattle.fact_tables.specs.declared.known.Known.TheVariants.{Nothing, Number, Cell, Null, Address, GlobalAddress}
 use Rattle.fact_tables.specs.Rows.{known_at}
-use Rattle.facts.specs.Facts.{FactSet, define, drop_fresh_of}
+use Rattle.facts.specs.Facts.{FactSet, define}
 use Rattle.type_kinds.specs.declared.type_kind.TypeKind.{TypeKind}
 use Rattle.type_kinds.specs.declared.type_kind.TypeKind.TheVariants.{NoValue, Bits, Reference, AnyReference, Address as AddressKind, Other}
 use Rattle.block_rules.specs.Operands as o
@@ -58,7 +58,6 @@ module _ (heap : Setup) (p : LaidOut) (f : Function) (table : SlotTable) (guarde
     pub below : Option ℕ
     pub number : IsInteger 64 below (value_of p.of_module registers written x)
     pub known : o.known_in p.of_module facts x ≡ Number 64 below
-    pub stays : drop_fresh_of (o.known_of facts x) facts ≡ facts
 
   -- a name of something outside
   module _ (written : ℕ) (pointer : is_pointer (kind_of p.of_module written) ≡ true) where
@@ -75,7 +74,6 @@ module _ (heap : Setup) (p : LaidOut) (f : Function) (table : SlotTable) (guarde
       below = None;
       number = subst (λ b. IsInteger 64 None (if b then k.outside_address else k.global_address (global_named p.of_module symbol))) (sym e) address_number;
       known = ap (λ b. if b then o.outside_known else GlobalAddress symbol) e;
-      stays = refl;
     }
     name_is (operand.CastGlobal from symbol to) e = record {
       pointer = pointer;
@@ -84,7 +82,6 @@ module _ (heap : Setup) (p : LaidOut) (f : Function) (table : SlotTable) (guarde
       below = None;
       number = subst (λ b. IsInteger 64 None (if b then k.outside_address else k.global_address (global_named p.of_module symbol))) (sym e) address_number;
       known = ap (λ b. if b then o.outside_known else GlobalAddress symbol) e;
-      stays = refl;
     }
 
     -- a value of this type that is known to be a number
@@ -104,14 +101,13 @@ module _ (heap : Setup) (p : LaidOut) (f : Function) (table : SlotTable) (guarde
           below = below;
           number = subst (λ n. IsInteger n below (register_at registers v)) same means;
           known = is ∙ ap (λ n. Number n below) same;
-          stays = ap (λ known. drop_fresh_of known facts) is;
         }
 
-    known_is : (x : Operand) → (o.is_typed p.of_module f written x && o.is_number_known (o.known_of facts x) && not (is_some (o.slot_named table x))) ≡ true → IsOutside written x
+    known_is : (x : Operand) → (o.is_number_known (o.known_of facts x) && o.is_typed p.of_module f written x && o.is_no_slot table x) ≡ true → IsOutside written x
     known_is x e =
-        let a = and_parts (o.is_typed p.of_module f written x && o.is_number_known (o.known_of facts x)) (not (is_some (o.slot_named table x))) e in
-        let b = and_parts (o.is_typed p.of_module f written x) (o.is_number_known (o.known_of facts x)) a.0 in
-        by x b.0 b.1 (none_of (o.slot_named table x) a.1) where
+        let a = and_parts (o.is_number_known (o.known_of facts x) && o.is_typed p.of_module f written x) (o.is_no_slot table x) e in
+        let b = and_parts (o.is_number_known (o.known_of facts x)) (o.is_typed p.of_module f written x) a.0 in
+        by x b.1 b.0 (none_of (o.slot_named table x) a.1) where
           by : (x : Operand) → o.is_typed p.of_module f written x ≡ true → o.is_number_known (o.known_of facts x) ≡ true → o.slot_named table x ≡ None → IsOutside written x
           by (operand.Constant c) typed e none = absurd cc
           by (operand.Local v) typed e none = value_is v (known_at facts.values v) refl (h.values v) typed e none
@@ -121,7 +117,7 @@ module _ (heap : Setup) (p : LaidOut) (f : Function) (table : SlotTable) (guarde
   -- what the rules allow as an address outside is one
   pub outside_is : (written : ℕ) (x : Operand) → o.is_outside_value p.of_module f table facts written x ≡ true → IsOutside written x
   outside_is written x e =
-      let rest = o.is_typed p.of_module f written x && o.is_number_known (o.known_of facts x) && not (is_some (o.slot_named table x)) in
+      let rest = o.is_number_known (o.known_of facts x) && o.is_typed p.of_module f written x && o.is_no_slot table x in
       let a = and_parts (is_pointer (kind_of p.of_module written)) (is_outside_operand p.of_module x || rest) e in
       elim (or_parts (is_outside_operand p.of_module x) rest a.1) [
         | inl name ↦ name_is written a.0 x name
