@@ -1,5 +1,5 @@
 -- Calls of functions outside that are trusted.
-use Rattle.std.proofs.Common.{◌≡◌, ℕ, ◌<◌, ◌^◌, Bool, List, [], ◌∷◌, length, refl, sym, ap, ◌∙◌, subst, arith, true, false, Option, Some, None, slice_get, inl, inr}
+use Rattle.std.proofs.Common.{◌≡◌, ℕ, Bool, List, [], ◌∷◌, length, refl, sym, ◌∙◌, subst, arith, true, false, Option, Some, None, slice_get, inl, inr}
 use Rattle.std.specs.Prelude.{◌==◌, ◌&&◌, ◌||◌}
 use Rattle.std.specs.List.{list_all, list_any, zip}
 use Rattle.lemmas.specs.Numbers.{test_true}
@@ -7,12 +7,8 @@ use Rattle.lemmas.specs.Bools.{and_parts, and_true, or_first, or_second, or_part
 use Rattle.ir_ast.specs.declared.argument.Argument.{Argument}
 use Rattle.ir_ast.specs.declared.function.Function.{Function}
 use Rattle.ir_ast.specs.declared.items_of_module.Declare.{Declare}
-use Rattle.ir_ast.specs.declared.operand.Constant.TheVariants as constant
-use Rattle.ir_ast.specs.declared.operand.Operand.{Operand}
-use Rattle.ir_ast.specs.declared.operand.Operand.TheVariants as operand
 use Rattle.pools.specs.Heap.{Setup}
 use Rattle.layout.specs.Layouts.{LaidOut}
-use Rattle.outside_names.specs.Operands.{is_outside_operand}
 use Rattle.shadow_stack.specs.Slots.{SlotTable}
 use Rattle.certs.specs.declared.section.Section.{Section}
 use Rattle.fact_tables.specs.declared.known.Known.TheVariants.{Nothing}
@@ -26,7 +22,7 @@ use Rattle.block_rules.specs.FirstFailing.{first_failing}
 use Rattle.block_rules.specs.Operands as o
 use Rattle.block_rules.specs.Signature.{is_foreign}
 use Rattle.type_kinds.specs.TypeKinds.{kind_of, is_void, is_integer, is_pointer}
-use Rattle.machine.specs.declared.action.Action.TheVariants.{Local, Foreign}
+use Rattle.machine.specs.declared.action.Action.TheVariants.{Local}
 use Rattle.machine.specs.declared.frame.Frame.{Frame}
 use Rattle.machine.specs.declared.value.Value.TheVariants as value
 use Rattle.machine.specs.Asks as a

@@ -1,7 +1,7 @@
 -- Addresses outside of a module: the names of what is there, and values of pointer types that are known to be numbers.
-use Rattle.std.proofs.Common.{◌≡◌, ℕ, ◌<◌, ◌^◌, slice_set, List, length, refl, sym, ap, ◌∙◌, subst, arith, true, false, Bool, Option, Some, None, is_some, slice_get, inl, inr}
+use Rattle.std.proofs.Common.{◌≡◌, ℕ, ◌<◌, ◌^◌, slice_set, List, length, refl, sym, ap, ◌∙◌, subst, true, false, Bool, Option, Some, None, slice_get, inl, inr}
 use Rattle.std.proofs.lemmas.Nat.{pow_pos}
-use Rattle.std.specs.Prelude.{◌&&◌, ◌||◌, ◌==◌, not, is_none, if◌then◌else◌}
+use Rattle.std.specs.Prelude.{◌&&◌, ◌||◌, is_none, if◌then◌else◌}
 use Rattle.lemmas.specs.Numbers.{test_true}
 use Rattle.lemmas.specs.Bools.{and_parts, and_true, or_parts, or_second, never_true}
 use Rattle.ir_ast.specs.declared.function.Function.{Function}
@@ -13,7 +13,6 @@ use Rattle.pools.specs.Heap.{Setup}
 use Rattle.layout.specs.Layouts.{LaidOut}
 use Rattle.outside_names.specs.Operands.{is_outside_operand}
 use Rattle.types.specs.Globals.{global_named, points_to_global}
-use Rattle.types.specs.RuntimeCall.{is_outside}
 use Rattle.types.specs.ValueTypes.{has_type}
 use Rattle.shadow_stack.specs.Slots.{SlotTable, slot_of}
 use Rattle.fact_tables.specs.declared.known.Known.{Known}

@@ -288,18 +288,18 @@ module _ (heap : Setup) (p : LaidOut) (certs : List Section) (reaches : Bool) (f
       (λ given. mc.set_slot (k.slot_at_place p.of_module f table place_type place) (value_of p.of_module frame.registers stored x) frame)
   store_goes result stored x place_type place i s stores k6 =
       let t = place_takes stored x place_type place i s stores in (
-      place_inside p f table frame.registers place_type place t.touches.at t.touches.is,
-      subst (λ y. Goes heap p table frame.slots reaches guarded log (r.after_store (o.known_of facts x) y facts)
-      (a.store_action p table stored (k.is_usable p.of_module f table frame.registers stored x) new (k.slot_at_place p.of_module f table place_type place) (k.address_at_place p.of_module f table frame.registers place_type place))
-      (λ given. mc.set_slot (k.slot_at_place p.of_module f table place_type place) new frame)) (sym s.no_slot)
-      (subst (λ y. Goes heap p table frame.slots reaches guarded log (drop_fresh_of (o.known_of facts x) facts)
-      (a.store_action p table stored (k.is_usable p.of_module f table frame.registers stored x) new y (k.address_at_place p.of_module f table frame.registers place_type place)) (λ given. mc.set_slot y new frame))
-      (sym (no_slot_at p f table place_type place s.no_slot))
-      (subst (λ y. Goes heap p table frame.slots reaches guarded log (drop_fresh_of (o.known_of facts x) facts) (if y then a.plain_action p stored new (k.address_at_place p.of_module f table frame.registers place_type place) else Wrong) (λ given. frame))
-      (sym (usable heap p certs reaches f table guarded log cells facts frame h stored x i.there i.typed i.no_slot))
-      (subst (λ y. Goes heap p table frame.slots reaches guarded log (drop_fresh_of (o.known_of facts x) facts) (a.plain_action p stored new y) (λ given. frame))
-      (sym (place_at heap p certs reaches f table guarded log fits cells facts frame h place_type place s t.touches.at t.touches.is))
-      (plain_goes stored x i (place_value_of p frame.registers place_type place) t.kind t.touches t.takes_it (λ refers. t.own (plainly stored place (o.place_known p.of_module facts place_type place) s.no_slot k6 refers)))))),
+        place_inside p f table frame.registers place_type place t.touches.at t.touches.is,
+        subst (λ y. Goes heap p table frame.slots reaches guarded log (r.after_store (o.known_of facts x) y facts)
+            (a.store_action p table stored (k.is_usable p.of_module f table frame.registers stored x) new (k.slot_at_place p.of_module f table place_type place) (k.address_at_place p.of_module f table frame.registers place_type place))
+            (λ given. mc.set_slot (k.slot_at_place p.of_module f table place_type place) new frame)) (sym s.no_slot)
+            (subst (λ y. Goes heap p table frame.slots reaches guarded log (drop_fresh_of (o.known_of facts x) facts)
+            (a.store_action p table stored (k.is_usable p.of_module f table frame.registers stored x) new y (k.address_at_place p.of_module f table frame.registers place_type place)) (λ given. mc.set_slot y new frame))
+            (sym (no_slot_at p f table place_type place s.no_slot))
+            (subst (λ y. Goes heap p table frame.slots reaches guarded log (drop_fresh_of (o.known_of facts x) facts) (if y then a.plain_action p stored new (k.address_at_place p.of_module f table frame.registers place_type place) else Wrong) (λ given. frame))
+            (sym (usable heap p certs reaches f table guarded log cells facts frame h stored x i.there i.typed i.no_slot))
+            (subst (λ y. Goes heap p table frame.slots reaches guarded log (drop_fresh_of (o.known_of facts x) facts) (a.plain_action p stored new y) (λ given. frame))
+            (sym (place_at heap p certs reaches f table guarded log fits cells facts frame h place_type place s t.touches.at t.touches.is))
+            (plain_goes stored x i (place_value_of p frame.registers place_type place) t.kind t.touches t.takes_it (λ refers. t.own (plainly stored place (o.place_known p.of_module facts place_type place) s.no_slot k6 refers)))))),
       ) where
         new : Value
         new = value_of p.of_module frame.registers stored x
