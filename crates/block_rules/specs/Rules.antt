@@ -1,5 +1,5 @@
 -- The rules: when an instruction is allowed, and what is known after it.
-use Rattle.std.specs.Prelude.{◌≡◌, ℕ, ◌==◌, Bool, false, not, ◌&&◌, ◌||◌, List, [], ◌∷◌, length, slice_get, nat_lt, Option, Some, None, is_some}
+use Rattle.std.specs.Prelude.{ℕ, ◌==◌, Bool, false, not, ◌&&◌, ◌||◌, List, [], ◌∷◌, length, slice_get, nat_lt, Option, Some, None, is_some}
 use Rattle.std.specs.List.{list_all}
 use Rattle.ir_ast.specs.declared.casts.Cast.{Cast}
 use Rattle.ir_ast.specs.declared.choices.Choice.{Choice}
@@ -31,7 +31,6 @@ use Rattle.facts.specs.Facts.{FactSet, end_slot}
 use Rattle.block_rules.specs.declared.rule.Rule.{Rule}
 use Rattle.block_rules.specs.declared.rule.Rule.TheVariants.{K1, K2, K3, K4, K5, K6, K8, K10, K11, K12, K14, K19}
 use Rattle.block_rules.specs.declared.instr_context.InstrContext.{InstrContext}
-use Rattle.block_rules.specs.FirstFailing.{first_failing}
 use Rattle.block_rules.specs.Operands.{slot_named, known_of, is_available, constant_fits, is_typed, is_value, is_passed, is_outside_value, is_current, is_null, place_known, is_based, is_no_slot}
 use Rattle.block_rules.specs.Places.{may_load, may_store, is_one_layout, after_load, after_store}
 use Rattle.block_rules.specs.Signature.{callee_of}

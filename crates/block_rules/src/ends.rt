@@ -171,6 +171,7 @@ pub fn end_refusal(
                 TypeKind::of(context.module(), context.function.returned).is_void(),
             ),
             (Rule::K12, here.may_move_references),
+            (Rule::K14, says_what_it_is(false, &here.promised)),
         ]),
         End::Return(argument) => return_refusal(context, here, facts, argument),
     }
