@@ -3,7 +3,6 @@ mod WrittenTypes
 mod FloatWords
 mod Few
 mod AsksArguments
-mod ForeignArguments
 mod Phis
 mod Arguments
 mod Kept
