@@ -3,6 +3,7 @@ mod WrittenTypes
 mod FloatWords
 mod Few
 mod AsksArguments
+mod ForeignArguments
 mod Phis
 mod Arguments
 mod Kept
