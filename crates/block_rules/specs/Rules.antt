@@ -1,5 +1,5 @@
 -- The rules: when an instruction is allowed, and what is known after it.
-use Rattle.std.specs.Prelude.{◌≡◌, ℕ, ◌==◌, Bool, false, not, ◌&&◌, ◌||◌, List, [], ◌∷◌, length, slice_get, nat_lt, Option, Some, None, is_some}
+use Rattle.std.specs.Prelude.{ℕ, ◌==◌, Bool, false, not, ◌&&◌, ◌||◌, List, [], ◌∷◌, length, slice_get, nat_lt, Option, Some, None, is_some}
 use Rattle.std.specs.List.{list_all}
 use Rattle.ir_ast.specs.declared.casts.Cast.{Cast}
 use Rattle.ir_ast.specs.declared.choices.Choice.{Choice}
@@ -31,7 +31,6 @@ use Rattle.facts.specs.Facts.{FactSet, end_slot}
 use Rattle.block_rules.specs.declared.rule.Rule.{Rule}
 use Rattle.block_rules.specs.declared.rule.Rule.TheVariants.{K1, K2, K3, K4, K5, K6, K8, K10, K11, K12, K14, K19}
 use Rattle.block_rules.specs.declared.instr_context.InstrContext.{InstrContext}
-use Rattle.block_rules.specs.FirstFailing.{first_failing}
 use Rattle.block_rules.specs.Operands.{slot_named, known_of, is_available, constant_fits, is_typed, is_value, is_passed, is_outside_value, is_current, is_null, place_known, is_based, is_no_slot}
 use Rattle.block_rules.specs.Places.{may_load, may_store, is_one_layout, after_load, after_store}
 use Rattle.block_rules.specs.Signature.{callee_of}
@@ -68,7 +67,7 @@ is_entry f written v _ = false
 abbrev pub may_come_in : Module → Function → SlotTable → (written : ℕ) → Operand → Bool
 may_come_in m f slots written (Written c) = constant_fits c (kind_of m written)
 may_come_in m f slots written (Local v) = is_entry f written v (slice_get f.sorts v) && not (is_some (slot_of slots v)) && not (is_opaque_address m slots written (Local v))
-may_come_in m f slots written operand = is_outside_operand m operand
+may_come_in m f slots written operand = is_outside_operand m operand && is_pointer (kind_of m written)
 
 -- each entry of a phi
 abbrev pub all_come_in : Module → Function → SlotTable → (written : ℕ) → List Incoming → Bool
@@ -172,7 +171,7 @@ element_conditions p f slots here facts x =
           && are_indices p.of_module f slots facts x.indices && no_slots slots x.indices,
     )
     ∷ (K3, is_current facts (known_of facts x.base))
-    ∷ (K5, is_outside_value p.of_module f slots facts x.base_type x.base || may_lead p facts x.source x.indices (known_of facts x.base))
+    ∷ (K5, may_lead p facts x.source x.indices (known_of facts x.base) || is_outside_value p.of_module f slots facts x.base_type x.base)
     ∷ (K10, is_no_slot slots x.base)
     ∷ (K12, here.may_move_references)
     ∷ (K19, casts_operand p.of_module x.base) ∷ []
@@ -235,7 +234,7 @@ end_conditions p f slots here facts (end.Switch written value otherwise cases) =
     ∷ (K12, here.may_move_references) ∷ []
 end_conditions p f slots here facts end.Unreachable = (K12, here.may_move_references) ∷ []
 end_conditions p f slots here facts end.ReturnVoid =
-    (K2, is_void (kind_of p.of_module f.returned)) ∷ (K12, here.may_move_references) ∷ []
+    (K2, is_void (kind_of p.of_module f.returned)) ∷ (K12, here.may_move_references) ∷ (K14, says_what_it_is false here.promised) ∷ []
 end_conditions p f slots here facts (end.Return argument) =
     (K1, is_available slots facts argument.operand)
     ∷ (K2, is_passed p.of_module f slots facts argument.written argument.operand && (argument.written == f.returned))

@@ -8,11 +8,10 @@ use crate::calls::{all_available, no_slots};
 use crate::conditions::first_failing;
 use crate::context::RuleContext;
 use crate::instr_context::InstrContext;
-use crate::operands::{is_null, is_value};
+use crate::operands::{is_null, is_outside_value, is_value};
 use crate::rule::Rule;
 use facts::Facts;
 use ir_ast::{Argument, DeclareId, Module, TypeId};
-use outside_names::is_outside_operand;
 use type_kinds::TypeKind;
 
 /// The rule that a call of the declared function with this number breaks, if it breaks one.
@@ -44,8 +43,9 @@ fn is_foreign_argument(context: &RuleContext, facts: &Facts, argument: &Argument
 {
     (TypeKind::of(context.module(), argument.written).is_integer()
         && is_value(context, facts, argument.written, &argument.operand))
-        || ((is_null(&argument.operand) || is_outside_operand(context.module(), &argument.operand))
+        || ((is_null(&argument.operand)
             && TypeKind::of(context.module(), argument.written).is_pointer())
+            || is_outside_value(context, facts, argument.written, &argument.operand))
 }
 
 fn are_foreign_arguments(context: &RuleContext, facts: &Facts, arguments: &[Argument]) -> bool
