@@ -298,7 +298,8 @@ only declared and gives a number, a pointer or nothing, if the certificate has
 `foreign @f none`. The pointer is taken for an address outside of the module. A
 call with another number of arguments is refused too. In such a call gcroot may
 still name a slot, gcread and gcwrite an address, and each function an address
-outside, so that K18 is what is told.
+outside, so that K18 is what is told. A function that is only declared may get
+addresses outside past its parameters, as `...` allows.
 
 Why: Of any other function nothing is known: it could reach a safepoint, keep a
 reference, or store one without a barrier. A line `foreign` promises that it
