@@ -17,7 +17,7 @@ other_count m f slots registers [] [] other = absurd (other refl)
 other_count m f slots registers [] (argument ∷ arguments) other = refl
 other_count m f slots registers (written ∷ types) [] other = refl
 other_count m f slots registers (written ∷ types) (argument ∷ arguments) other =
-    let taken = is_usable_number m f slots registers argument.written argument.operand || is_address_argument m argument in
+    let taken = is_usable_number m f slots registers argument.written argument.operand || is_address_argument m f slots registers argument in
     ap (λ b. (argument.written == written) && (taken && b)) (other_count m f slots registers types arguments (λ e. other (ap (λ n. suc n) e)))
     ∙ ap (λ b. (argument.written == written) && b) (and-false taken)
     ∙ and-false (argument.written == written)

@@ -45,7 +45,7 @@ fn entry_fits(context: &FrameContext<'_>, written: TypeId, entry: Option<Operand
 {
     match entry {
         Some(operand) => {
-            is_no_global(&operand)
+            is_no_global(context.of_module(), &operand)
                 && is_typed(context, written, &operand)
                 && !context
                     .slots

@@ -38,7 +38,7 @@ same_types one other = (one.returned == other.returned) && (length one.parameter
 
 -- ---- promises, by what they say
 
--- two promises have the same layout, or none; both say nonnull or neither does; they have the same bound, or none; and both promise an address outside or neither does
+-- two promises have the same layout, or none; both say nonnull or neither does; they have the same bound, or none; and both are of an address outside or neither is
 abbrev pub same_promise : (one other : Promise) → Bool
 same_promise one other = option_eq nat_eq one.layout other.layout && same_truth one.nonnull other.nonnull && option_eq nat_eq one.below other.below && same_truth one.number other.number
 
