@@ -1,0 +1,6 @@
+define ptr @f(ptr %p) {
+entry:
+  br label %next
+next:
+  ret ptr %p
+}
