@@ -1,5 +1,5 @@
 -- The phis of a certified block may take their entries.
-use Rattle.std.proofs.Common.{◌≡◌, ℕ, suc, List, [], ◌∷◌, refl, subst, true, false, Bool, Option, Some, None, is_some, slice_get, sym, ◌∙◌}
+use Rattle.std.proofs.Common.{◌≡◌, ℕ, suc, List, [], ◌∷◌, refl, subst, true, false, Bool, Option, Some, None, is_some, slice_get, sym, ap, ◌∙◌}
 use Rattle.std.specs.Prelude.{◌||◌, ◌&&◌, ◌++◌, not, if◌then◌else◌}
 use Rattle.lemmas.specs.Bools.{and_parts, and_true, or_second}
 use Rattle.ir_ast.specs.declared.choices.Incoming.{Incoming}
@@ -12,7 +12,7 @@ use Rattle.ir_ast.specs.declared.operand.Operand.{Operand}
 use Rattle.ir_ast.specs.declared.operand.Operand.TheVariants as operand
 use Rattle.types.specs.Globals.{points_to_global}
 use Rattle.types.specs.RuntimeCall.{is_outside}
-use Rattle.types.specs.ValueTypes.{is_value_of, target_of}
+use Rattle.types.specs.ValueTypes.{is_value_of, has_type, target_of}
 use Rattle.shadow_stack.specs.Slots.{SlotTable, slot_of, is_opaque_address}
 use Rattle.block_rules.specs.declared.rule.Rule.{Rule}
 use Rattle.block_rules.specs.declared.rule.Rule.TheVariants.{K2, K16}
@@ -41,13 +41,16 @@ scalar_kind Address e = absurd cc
 scalar_kind Other e = absurd cc
 
 module _ (m : Module) (f : Function) (table : SlotTable) where
-  value_typed : (written v : ℕ) (given : Option LocalSort) → is_entry f written v given ≡ true → is_value_of m f written given ≡ true
-  value_typed written v None e = absurd cc
-  value_typed written v (Some sort.Unknown) e = absurd cc
-  value_typed written v (Some (sort.Value type)) e = e
-  value_typed written v (Some (sort.Slot held)) e = absurd cc
-  value_typed written v (Some (sort.Element block place)) e = absurd cc
-  value_typed written v (Some (sort.Block block)) e = absurd cc
+  -- a name that may come in has the written type: a value, or where the text has the wide forms an address
+  value_typed : (written v : ℕ) → is_entry m f written v (slice_get f.sorts v) ≡ true → has_type m f written v ≡ true
+  value_typed written v e = by (slice_get f.sorts v) refl e where
+    by : (given : Option LocalSort) → slice_get f.sorts v ≡ given → is_entry m f written v given ≡ true → is_value_of m f written given ≡ true
+    by None is e = absurd cc
+    by (Some sort.Unknown) is e = absurd cc
+    by (Some (sort.Value type)) is e = e
+    by (Some (sort.Slot held)) is e = absurd cc
+    by (Some (sort.Element block place)) is e = ap (is_value_of m f written) (sym is) ∙ (and_parts m.wide (has_type m f written v) e).1
+    by (Some (sort.Block block)) is e = absurd cc
 
   -- a name of something outside comes in at a pointer type
   outside_typed : (written symbol : ℕ) (other : Bool) → (is_outside m symbol && is_pointer (kind_of m written)) ≡ true → (is_outside m symbol && (other || (is_outside m symbol && k.is_pointer_type (slice_get m.types written))) && (m.wide || true)) ≡ true
@@ -61,9 +64,9 @@ module _ (m : Module) (f : Function) (table : SlotTable) where
   operand_typed : (written : ℕ) (x : Operand) → may_come_in m f table written x ≡ true → j.entry_fits m f table written (Some x) ≡ true
   operand_typed written (operand.Constant c) e = rw (constant_passes m written c e) (or_second m.wide true refl)
   operand_typed written (operand.Local v) e =
-      let all = and_parts (is_entry f written v (slice_get f.sorts v) && not (is_some (slot_of table v))) (m.wide || not (is_opaque_address m table written (operand.Local v))) e in
-      let b = and_parts (is_entry f written v (slice_get f.sorts v)) (not (is_some (slot_of table v))) all.0 in
-      rw (value_typed written v (slice_get f.sorts v) b.0, none_of (slot_of table v) b.1, all.1) refl
+      let all = and_parts (is_entry m f written v (slice_get f.sorts v) && not (is_some (slot_of table v))) (m.wide || not (is_opaque_address m table written (operand.Local v))) e in
+      let b = and_parts (is_entry m f written v (slice_get f.sorts v)) (not (is_some (slot_of table v))) all.0 in
+      rw (value_typed written v b.0, none_of (slot_of table v) b.1, all.1) refl
   operand_typed written (operand.Global g) e = outside_typed written g (points_to_global m written g) e
   operand_typed written (operand.CastGlobal from g to) e = outside_typed written g _ e
 
