@@ -1,6 +1,5 @@
 //! What is known before an instruction.
 ghost use Rattle.std.specs.Prelude.{◌≡◌, IfOk, OnOk, length, take, ◌-◌};
-ghost use Rattle.shadow_stack.specs.Slots.{slots_of};
 ghost use Rattle.facts.specs.Facts.{FactSet as AFactSet};
 ghost use Rattle.facts.specs.Claims.{receive_all};
 ghost use Rattle.block_rules.specs.Edges.{parameters_given, entry_facts_at};
@@ -95,7 +94,7 @@ fn begin_entry(context: &RuleContext, func: FuncId, facts: &mut Facts) -> Result
 }
 
 /// What a block begins with.
-pub fn facts_at_entry(
+pub(crate) fn facts_at_entry(
     alloc: Global,
     context: &RuleContext,
     func: FuncId,
@@ -104,14 +103,15 @@ pub fn facts_at_entry(
     ensures { IfOk result (λ facts. facts ≡ entry_facts_at (seen context.now func) block) }
 {
     let values = context.function.locals.count();
-    let mut facts = Facts::new(alloc, values, context.slots.count())?;
     if block.number() == 0 {
+        let mut facts = Facts::new(alloc, values, context.slots.count())?;
         begin_entry(context, func, &mut facts)?;
-    } else {
-        let mut spare = SpareRows::none();
-        let claims = claims_of(context, func, block);
-        facts.begin(alloc, &mut spare, values, context.slots, claims)?;
+        return Ok(facts);
     }
+    let mut facts = Facts::new(alloc, 0, 0)?;
+    let mut spare = SpareRows::none();
+    let claims = claims_of(context, func, block);
+    facts.begin(alloc, &mut spare, values, context.slots, claims)?;
     Ok(facts)
 }
 
@@ -126,7 +126,7 @@ fn follow(context: &RuleContext, facts: &mut Facts, body: &[Instr]) -> Result<()
 }
 
 /// The instructions of the body of a block before this place of the block.
-pub fn body_before<'a>(context: &RuleContext<'a>, block: BlockId, place: usize) -> &'a [Instr]
+pub(crate) fn body_before<'a>(context: &RuleContext<'a>, block: BlockId, place: usize) -> &'a [Instr]
     ensures { result.now ≡ spec.body_before context.now block place }
 {
     let phis = phi_count(context.function, block);
@@ -141,7 +141,6 @@ pub fn facts_before(
     block: BlockId,
     place: usize,
 ) -> Result<Facts, AllocError>
-    requires { context.now.slots.now ≡ slots_of context.now.program.now.of_module context.now.function.now }
     ensures value { IfOk result (λ facts. facts ≡ spec.facts_before context.now func block place) }
     // Where the rules hold up to there, this is what the check found.
     ensures as_checked { (last : AFactSet) → let s = seen context.now func in Follows s block (phi_count s block) (entry_facts_at s block) (spec.body_before context.now block place) last → IfOk result (λ facts. facts ≡ last) }

@@ -1,0 +1,191 @@
+//! A value that is defined on one way to its use, and not on another: where it is used, and how it is loaded again there.
+use crate::cases::{Loaded, Mending, Seen};
+use crate::definitions::{blocks_between, defining};
+use crate::diagnosis::Draft;
+use crate::nulls::is_value;
+use crate::operands::operands_of;
+use crate::scene::{Scene, Spot, There, block_at, is_among};
+use crate::told::{Told, local, value_in};
+use crate::unknown::note_definition;
+use ir_ast::{Block, BlockId, End, Function, Instr, MemoryOp, Op, Operand, ValueId};
+use std::alloc::AllocError;
+use types::target_of;
+
+/// How many blocks are gone over at most.
+const FAR: usize = 4096;
+
+/// Whether an instruction reads a value.
+fn reads(scene: &Scene, there: There, value: ValueId) -> Result<bool, AllocError> {
+    let operands = operands_of(scene.alloc, there)?;
+    let found = operands
+        .as_slice()
+        .iter()
+        .any(|operand| is_value(value, Some(*operand)));
+    drop(operands);
+    Ok(found)
+}
+
+/// The first instruction of some of a body that reads a value.
+fn used_in_body(
+    scene: &Scene,
+    body: &[Instr],
+    value: ValueId,
+) -> Result<Option<usize>, AllocError> {
+    for (place, instr) in body.iter().enumerate() {
+        if reads(scene, There::Body(instr), value)? {
+            return Ok(Some(place));
+        }
+    }
+    Ok(None)
+}
+
+/// The place of the first instruction of a block after its phis that reads a value.
+fn used_in(scene: &Scene, block: &Block, value: ValueId) -> Result<Option<usize>, AllocError> {
+    let phis = block.phis.len();
+    if let Some(place) = used_in_body(scene, block.body.as_slice(), value)? {
+        return Ok(Some(phis.saturating_add(place)));
+    }
+    if reads(scene, There::End(&block.end), value)? {
+        Ok(Some(phis.saturating_add(block.body.len())))
+    } else {
+        Ok(None)
+    }
+}
+
+/// Appends the block of a label, if it is not among them.
+fn add_target(
+    function: &Function,
+    label: ValueId,
+    found: &mut Vec<BlockId>,
+) -> Result<(), AllocError> {
+    if let Some(id) = target_of(function, label) {
+        if found.len() < FAR && !is_among(found.as_slice(), id) {
+            found.push(id)?;
+        }
+    }
+    Ok(())
+}
+
+/// Appends the blocks to which one leads, each once.
+fn add_next(
+    function: &Function,
+    block: &Block,
+    found: &mut Vec<BlockId>,
+) -> Result<(), AllocError> {
+    match &block.end {
+        End::Jump(label) => add_target(function, *label, found),
+        End::Branch { taken, other, .. } => {
+            add_target(function, *taken, found)?;
+            add_target(function, *other, found)
+        }
+        End::Switch {
+            otherwise,
+            cases,
+            ..
+        } => {
+            add_target(function, *otherwise, found)?;
+            for case in cases.as_slice() {
+                add_target(function, case.target, found)?;
+            }
+            Ok(())
+        }
+        End::Unreachable | End::ReturnVoid | End::Return(_) => Ok(()),
+    }
+}
+
+/// The first instruction from the beginning of a block on that reads a value.
+fn first_use(scene: &Scene, from: BlockId, value: ValueId) -> Result<Option<Spot>, AllocError> {
+    let function = scene.context.function;
+    let mut found = Vec::new(scene.alloc);
+    found.push(from)?;
+    for turn in 0..FAR {
+        let Some(id) = found.get(turn).copied() else {
+            return Ok(None);
+        };
+        if let Some(block) = block_at(function, id) {
+            if let Some(place) = used_in(scene, block, value)? {
+                return Ok(Some(Spot { block: id, place }));
+            }
+            add_next(function, block, &mut found)?;
+        }
+    }
+    Ok(None)
+}
+
+/// The load from a slot that gives a value, if one does, and the slot.
+fn load_of(scene: &Scene, value: ValueId) -> Option<(Loaded, Operand)> {
+    let instr = defining(scene.context.function, value)?;
+    let Op::Memory(
+        MemoryOp::Load {
+            loaded,
+            place_type,
+            place,
+        },
+    ) = &instr.op
+    else {
+        return None;
+    };
+    scene.context.slots.slot_of(local(*place)?)?;
+    let load = Loaded {
+        value,
+        loaded: *loaded,
+        place_type: *place_type,
+    };
+    Some((load, *place))
+}
+
+/// Whether a way leads from the block that defines the value to another one.
+fn is_on_a_way(scene: &Scene, by: BlockId, to: BlockId) -> Result<bool, AllocError> {
+    let blocks = blocks_between(scene, &None, to)?;
+    let is_on = is_among(blocks.as_slice(), by);
+    drop(blocks);
+    Ok(is_on)
+}
+
+/// What mends it where the value is no load from a slot.
+fn mend_without_load(found: &mut Draft, told: &Told, at: BlockId) {
+    let Some(by) = told.by else {
+        return;
+    };
+    match is_on_a_way(told.scene, by, at) {
+        Ok(true) => found.mend(told, Mending::PhiOnWays),
+        Ok(false) => found.mend(told, Mending::OtherValue),
+        Err(_) => found.refuse(),
+    }
+}
+
+/// What mends it: the load again, or a phi. The value is used at a block.
+fn mend_one_way(found: &mut Draft, told: &Told, at: BlockId) {
+    let load = match value_in(told.it) {
+        Some(value) => load_of(told.scene, value),
+        None => None,
+    };
+    match load {
+        Some((load, place)) => {
+            found.mend(&told.with_place(Some(place)), Mending::LoadAgain(load))
+        }
+        None => mend_without_load(found, told, at),
+    }
+}
+
+/// Where the value is defined and used, and what mends it, of a use that is the refused instruction itself.
+pub(crate) fn find_one_way_here(found: &mut Draft, told: &Told) {
+    note_definition(found, told, Seen::DefinedIn);
+    mend_one_way(found, told, told.scene.refusal.block)
+}
+
+/// Where a value is defined and used that an edge to this block does not have, and what mends it.
+pub(crate) fn find_one_way_on(found: &mut Draft, told: &Told, target: BlockId) {
+    let Some(value) = value_in(told.it) else {
+        return;
+    };
+    note_definition(found, told, Seen::DefinedIn);
+    match first_use(told.scene, target, value) {
+        Ok(Some(spot)) => {
+            found.note(told, &spot, told.it, Seen::Used);
+            mend_one_way(found, told, spot.block)
+        }
+        Ok(None) => found.mend(told, Mending::UnusedClaim),
+        Err(_) => found.refuse(),
+    }
+}

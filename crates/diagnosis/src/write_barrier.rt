@@ -1,0 +1,69 @@
+//! K6 and K7: the write barrier, and the object that it names.
+use crate::cases::{Mending, Target};
+use crate::diagnosis::Draft;
+use crate::scene::Scene;
+use crate::stale::class_of;
+use crate::subjects::arguments_of;
+use crate::told::{Told, value_in};
+use facts::Known;
+use ir_ast::Operand;
+
+/// The reference in whose cell an operand is a place.
+pub(crate) fn base_of(scene: &Scene, operand: &Option<Operand>) -> Option<Operand> {
+    let value = value_in(*operand)?;
+    match scene.facts.known(value) {
+        Known::Address { base, .. } => Some(Operand::Local(base)),
+        Known::Cell { .. } => Some(Operand::Local(value)),
+        _ => None,
+    }
+}
+
+/// Where a reference is stored without a barrier.
+pub(crate) fn target_of_store(told: &Told) -> Target {
+    match (told.place, told.base) {
+        (Some(Operand::Global(_) | Operand::CastGlobal { .. }), _) => Target::Global,
+        (_, Some(_)) => Target::Cell,
+        _ => Target::Other,
+    }
+}
+
+/// Whether two operands are the same reference.
+fn are_same(scene: &Scene, one: Option<Operand>, other: Option<Operand>) -> bool {
+    match (value_in(one), value_in(other)) {
+        (Some(one), Some(other)) => match (
+            class_of(scene.facts, one),
+            class_of(scene.facts, other),
+        ) {
+            (Some(one), Some(other)) => one.number() == other.number(),
+            _ => false,
+        },
+        _ => false,
+    }
+}
+
+/// The value that the refused llvm.gcwrite stores, if the place is in its own cell.
+fn stored_into_itself(told: &Told) -> Option<Operand> {
+    match arguments_of(told.scene) {
+        [value, _, _] if are_same(told.scene, Some(value.operand), told.base) => {
+            Some(value.operand)
+        }
+        _ => None,
+    }
+}
+
+/// K7: the object of the place. Where the place is in the cell of the value, this and the object may be changed round.
+pub(crate) fn mend_object(found: &mut Draft, told: &Told) {
+    if let Some(value) = stored_into_itself(told) {
+        let swapped = Told {
+            base: Some(value),
+            ..*told
+        };
+        found.mend(&swapped, Mending::ChangeRound);
+        return found.mend(&swapped, Mending::NameItself);
+    }
+    let mending = match told.base {
+        None => Mending::NameNull,
+        Some(_) => Mending::NameObject,
+    };
+    found.mend(told, mending)
+}
