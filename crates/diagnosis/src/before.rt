@@ -15,7 +15,7 @@ use ir_ast::{BlockId, FuncId, Function, Instr, Module, Parameter};
 use std::alloc::{AllocError, Global};
 
 /// The claims of a block in the certificate.
-fn claims_of<'a>(context: &RuleContext<'a>, func: FuncId, block: BlockId) -> &'a [Claim]
+pub(crate) fn claims_of<'a>(context: &RuleContext<'a>, func: FuncId, block: BlockId) -> &'a [Claim]
     ensures { result.now ≡ spec.claims_of context.now func block }
 {
     match context.certs.section(func) {
@@ -126,7 +126,11 @@ fn follow(context: &RuleContext, facts: &mut Facts, body: &[Instr]) -> Result<()
 }
 
 /// The instructions of the body of a block before this place of the block.
-pub(crate) fn body_before<'a>(context: &RuleContext<'a>, block: BlockId, place: usize) -> &'a [Instr]
+pub(crate) fn body_before<'a>(
+    context: &RuleContext<'a>,
+    block: BlockId,
+    place: usize,
+) -> &'a [Instr]
     ensures { result.now ≡ spec.body_before context.now block place }
 {
     let phis = phi_count(context.function, block);

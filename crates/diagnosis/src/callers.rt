@@ -5,11 +5,11 @@ use crate::cases::Seen;
 use crate::definitions::{Definition, definition_of};
 use crate::diagnosis::Draft;
 use crate::function::FunctionTables;
-use crate::scene::{Scene, Spot, block_id, instr_in};
+use crate::scene::{Scene, Spot, block_id, defined_as, instr_in};
 use crate::stale::{find_lost, lost_before};
 use crate::told::{Told, local};
 use block_rules::{Refusal, RuleContext};
-use ir_ast::{Block, End, FuncId, Function, Instr, Op, Operand, SymbolSort, ValueId};
+use ir_ast::{Block, End, FuncId, Function, Instr, Op, Operand, ValueId};
 use std::alloc::AllocError;
 
 /// How many calls are looked at at most.
@@ -34,7 +34,7 @@ fn find_in_scene(
         return Ok(false);
     }
     let told = Told::of(scene, Some(Operand::Local(value)));
-    found.note(&told, &scene.spot(), told.it, seen);
+    found.note(&told, &scene.spot(), told.holes.it, seen);
     find_lost(found, &told, &[]);
     Ok(true)
 }
@@ -174,15 +174,7 @@ fn called(scene: &Scene, spot: &Spot) -> Option<FuncId> {
     let Op::Call(call) = &instr.op else {
         return None;
     };
-    match scene
-        .context
-        .module()
-        .sorts
-        .get(call.callee.number() as usize)
-    {
-        Some(SymbolSort::Defined(func)) => Some(*func),
-        _ => None,
-    }
+    defined_as(scene.context.module(), call.callee)
 }
 
 /// The values that a function returns.

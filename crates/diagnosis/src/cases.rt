@@ -165,10 +165,7 @@ pub enum Case {
     /// A constant index outside the words of a cell.
     OutsideCell,
     /// The layout of a reference, and that of the struct that is written.
-    OtherStruct {
-        found: LayoutId,
-        written: LayoutId,
-    },
+    OtherStruct { found: LayoutId, written: LayoutId },
     Unbarred(Target),
     /// The object of a barrier is not that of the place, which is in the cell of another one.
     OtherObject,
@@ -274,10 +271,7 @@ pub enum Mending {
     /// The lines that make a slot a root, which holds references to this layout.
     RootAfter(ValueId, Option<LayoutId>),
     /// A value of this type is stored by a barrier, into a place of this type.
-    Barrier {
-        stored: TypeId,
-        place_type: TypeId,
-    },
+    Barrier { stored: TypeId, place_type: TypeId },
     NameNull,
     NameObject,
     /// The value and the object of a barrier are changed round.

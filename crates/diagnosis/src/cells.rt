@@ -2,13 +2,13 @@
 use crate::cases::{Beyond, Case, Mending, Mistyped};
 use crate::definitions::{Definition, definition_of};
 use crate::diagnosis::Draft;
-use crate::mistyped::{Wrong, special_in};
+use crate::mistyped::{Wrong, is_address, is_global, special_in};
 use crate::nulls::{is_made_here, is_value};
 use crate::operands::{reference_of, slot_among};
 use crate::outside::{handed_outside, misused_outside};
 use crate::scene::Scene;
 use crate::subjects::{arguments_of, is_runtime_call};
-use crate::told::{Told, call_of, op_of, value_in};
+use crate::told::{Holes, Told, call_of, op_of, value_in};
 use crate::write_barrier::mend_object;
 use facts::Known;
 use ir_ast::{Argument, Constant, Element, IrType, Op, Operand, Runtime, TypeId, ValueId};
@@ -197,7 +197,7 @@ fn beyond_of(below: u64, bits: u32, length: u64) -> Option<Beyond> {
 fn find_loose(found: &mut Draft, told: &Told, bits: u32) {
     found.case(told, Case::Loose);
     found.mend(told, Mending::CompareIndex(bits));
-    if let Some(index) = value_in(told.it) {
+    if let Some(index) = value_in(told.holes.it) {
         if let Some(mending) = bound_listed(told.scene, index) {
             found.mend(told, mending);
         }
@@ -206,8 +206,8 @@ fn find_loose(found: &mut Draft, told: &Told, bits: u32) {
 
 /// K5: an index that is no constant. The base is that of the getelementptr.
 fn find_index(found: &mut Draft, told: &Told, bits: u32) {
-    let beyond = match known_below(told.scene, told.it) {
-        Some(below) => beyond_of(below, bits, told.number),
+    let beyond = match known_below(told.scene, told.holes.it) {
+        Some(below) => beyond_of(below, bits, told.holes.number),
         None => None,
     };
     match beyond {
@@ -226,7 +226,7 @@ fn find_fixed(found: &mut Draft, told: &Told) {
     } else {
         Case::OutsideCell
     };
-    let caret = outside_index(told.scene).or(told.it);
+    let caret = outside_index(told.scene).or(told.holes.it);
     found.case_under(told, case, caret);
     found.mend(told, Mending::OfCase)
 }
@@ -234,45 +234,19 @@ fn find_fixed(found: &mut Draft, told: &Told) {
 /// K5, by the base of the getelementptr.
 pub(crate) fn find_outside(found: &mut Draft, told: &Told, operands: &[Operand]) {
     found.know(told.scene, operands);
-    show_words(found, told.scene, told.it);
+    show_words(found, told.scene, told.holes.it);
     match loose_index(told.scene) {
-        Some(loose) => find_index(
-            found,
-            &Told {
+        Some(loose) => {
+            let holes = Holes {
                 it: Some(loose.index),
-                base: told.it,
+                base: told.holes.it,
                 number: loose.length,
-                ..*told
-            },
-            loose.bits,
-        ),
+                ..told.holes
+            };
+            find_index(found, &told.with(holes), loose.bits)
+        }
         None => find_fixed(found, told),
     }
-}
-
-/// The first operand that is the address of a global, where a value is wanted.
-fn global_among(operands: &[Operand]) -> Option<Operand> {
-    for operand in operands {
-        if matches!(operand, Operand::Global(_) | Operand::CastGlobal { .. }) {
-            return Some(*operand);
-        }
-    }
-    None
-}
-
-/// The first operand that is the address of a word.
-fn address_among(scene: &Scene, operands: &[Operand]) -> Option<Operand> {
-    for operand in operands {
-        if let Operand::Local(value) = operand {
-            if matches!(
-                scene.facts.known(*value),
-                Known::Address { .. } | Known::GlobalAddress(_)
-            ) {
-                return Some(*operand);
-            }
-        }
-    }
-    None
 }
 
 /// The value that the refused llvm.gcwrite stores.
@@ -297,12 +271,13 @@ fn slot_used(scene: &Scene, operands: &[Operand], place: &Option<Operand>) -> Op
     }
 }
 
-/// An address that is used as a value.
+/// An address that is used as a value: of a global, or else of a word.
 fn address_used(scene: &Scene, operands: &[Operand]) -> Option<Operand> {
-    match global_among(operands) {
-        Some(operand) => Some(operand),
-        None => address_among(scene, operands),
-    }
+    let mut globals = operands.iter().filter(|operand| is_global(**operand));
+    let mut addresses = operands
+        .iter()
+        .filter(|operand| is_address(scene, **operand));
+    globals.next().or(addresses.next()).copied()
 }
 
 /// What is wrong with the value that llvm.gcwrite stores.
@@ -370,8 +345,8 @@ fn mend_word_type(found: &mut Draft, told: &Told, cell: Option<Operand>) {
 fn mend_type(found: &mut Draft, told: &Told, wrong: Wrong) {
     match (wrong.mistyped, wrong.operand) {
         (Mistyped::Layout, _) => found.mend(told, Mending::OtherNumber),
-        (Mistyped::Place, _) => mend_word_type(found, told, told.it),
-        (Mistyped::Stored, _) => mend_word_type(found, told, told.place),
+        (Mistyped::Place, _) => mend_word_type(found, told, told.holes.it),
+        (Mistyped::Stored, _) => mend_word_type(found, told, told.holes.place),
         (Mistyped::SlotType, Some(slot)) => found.mend(told, Mending::SlotType(slot)),
         (Mistyped::Rooted, Some(Operand::Local(slot))) => found.mend(told, Mending::Root(slot)),
         (Mistyped::Object, _) => mend_object(found, told),
@@ -390,7 +365,7 @@ fn mend_call(found: &mut Draft, told: &Told) {
 
 /// K2.
 pub(crate) fn find_mistyped(found: &mut Draft, told: &Told, operands: &[Operand]) {
-    let wrong = wrong_in(told.scene, operands, told.place);
+    let wrong = wrong_in(told.scene, operands, told.holes.place);
     let told = told.with_it(wrong.operand);
     found.case(&told, Case::Mistyped(wrong.mistyped));
     found.know(told.scene, operands);

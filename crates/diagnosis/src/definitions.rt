@@ -1,9 +1,10 @@
 //! Where a value is defined, and which blocks on the way from there do not list it.
+use crate::before::claims_of;
 use crate::known::is_of;
 use crate::known_claims::claim_of;
-use crate::scene::{Scene, Spot, block_at, block_id, instr_in, is_among};
+use crate::scene::{Scene, Spot, block_at, block_id, instr_in};
 use crate::ways::defines;
-use certs::{Claim, Section};
+use certs::Claim;
 use ir_ast::{BlockId, Function, Instr, ValueId};
 use number_tables::{put, row_or};
 use std::alloc::{AllocError, Global};
@@ -36,10 +37,7 @@ impl Definition {
 fn place_in(function: &Function, block: BlockId, value: ValueId) -> Option<usize> {
     let block = block_at(function, block)?;
     let phis = block.phis.as_slice();
-    if let Some(place) = phis
-        .iter()
-        .position(|phi| phi.value.number() == value.number())
-    {
+    if let Some(place) = phis.iter().position(|phi| phi.value == value) {
         return Some(place);
     }
     let place = block
@@ -55,7 +53,7 @@ fn parameter_number(function: &Function, value: ValueId) -> Option<usize> {
         .parameters
         .as_slice()
         .iter()
-        .position(|parameter| parameter.value.number() == value.number())
+        .position(|parameter| parameter.value == value)
 }
 
 /// Where a value of the function is defined.
@@ -90,14 +88,9 @@ pub(crate) fn defining(function: &Function, value: ValueId) -> Option<&Instr> {
 }
 
 /// Whether a block lists a value.
-fn lists(section: Option<&Section>, block: BlockId, value: ValueId) -> bool {
-    let Some(section) = section else {
-        return false;
-    };
-    match section.blocks.get(block.number() as usize) {
-        Some(claims) => claims.as_slice().iter().any(|claim| is_of(claim, value)),
-        None => false,
-    }
+fn lists(scene: &Scene, block: BlockId, value: ValueId) -> bool {
+    let claims = claims_of(&scene.context, scene.refusal.func, block);
+    claims.iter().any(|claim| is_of(claim, value))
 }
 
 /// What would be claimed of a value: what is known of it where it is defined. It is not claimed to be fresh.
@@ -181,26 +174,31 @@ pub(crate) fn blocks_between(
 
 /// Whether a block is the one that defines the value.
 fn is_first(from: &Option<BlockId>, block: BlockId) -> bool {
-    match from {
-        Some(from) => from.number() == block.number(),
-        None => false,
-    }
+    *from == Some(block)
 }
 
 /// Whether a way from the beginning of the function leads to a block past the one that defines a value.
-pub(crate) fn is_bypassed(scene: &Scene, from: &Option<BlockId>, to: BlockId) -> Result<bool, AllocError> {
+pub(crate) fn is_bypassed(
+    scene: &Scene,
+    from: &Option<BlockId>,
+    to: BlockId,
+) -> Result<bool, AllocError> {
     let entry = BlockId::new(0);
     match from {
         Some(from) if from.number() != 0 => {
             let blocks = blocks_between(scene, &Some(*from), to)?;
-            Ok(is_among(blocks.as_slice(), entry))
+            Ok(blocks.contains(&entry))
         }
         _ => Ok(false),
     }
 }
 
 /// Whether a value has to be listed at a block, and is not.
-pub(crate) fn is_missing(scene: &Scene, from: &Option<BlockId>, block: BlockId, value: ValueId) -> bool {
-    let section = scene.context.certs.section(scene.refusal.func);
-    !is_first(from, block) && block.number() != 0 && !lists(section, block, value)
+pub(crate) fn is_missing(
+    scene: &Scene,
+    from: &Option<BlockId>,
+    block: BlockId,
+    value: ValueId,
+) -> bool {
+    !is_first(from, block) && block.number() != 0 && !lists(scene, block, value)
 }

@@ -85,8 +85,8 @@ impl Diagnosis {
 
     /// Another function of which something is seen, if there is one.
     pub fn other_function(&self) -> Option<FuncId> {
-        let own = self.refusal.func.number();
-        let note = self.notes.iter().find(|note| note.holes.func.number() != own)?;
+        let own = self.refusal.func;
+        let note = self.notes.iter().find(|note| note.holes.func != own)?;
         Some(note.holes.func)
     }
 }
@@ -106,7 +106,7 @@ impl Draft {
             diagnosis: Diagnosis {
                 refusal: scene.refusal,
                 case: Case::Rule(scene.refusal.rule),
-                holes: Told::of(scene, None).holes(),
+                holes: Told::of(scene, None).holes,
                 caret: None,
                 notes: Vec::new(alloc),
                 known: Items::new(alloc),
@@ -120,13 +120,13 @@ impl Draft {
 
     /// This is wrong, and a caret stands under what it speaks of.
     pub(crate) fn case(&mut self, told: &Told, case: Case) {
-        self.case_under(told, case, told.it)
+        self.case_under(told, case, told.holes.it)
     }
 
     /// This is wrong, and a caret stands under an operand.
     pub(crate) fn case_under(&mut self, told: &Told, case: Case, caret: Option<Operand>) {
         self.diagnosis.case = case;
-        self.diagnosis.holes = told.holes();
+        self.diagnosis.holes = told.holes;
         self.diagnosis.caret = caret;
     }
 
@@ -142,7 +142,7 @@ impl Draft {
     }
 
     pub(crate) fn add_note(&mut self, told: &Told, at: At, seen: Seen) {
-        let holes = told.holes();
+        let holes = told.holes;
         if self.diagnosis.notes.push(Note { at, seen, holes }).is_err() {
             self.refuse();
         }
@@ -163,7 +163,7 @@ impl Draft {
 
     /// This mends it, or is a further line of what does.
     pub(crate) fn mend(&mut self, told: &Told, mending: Mending) {
-        let holes = told.holes();
+        let holes = told.holes;
         if self.diagnosis.mends.push(Mend { mending, holes }).is_err() {
             self.refuse();
         }

@@ -1,4 +1,5 @@
 //! K15: an edge, the claim that it does not imply, which word of that is missing and why.
+use crate::before::claims_of;
 use crate::cases::{Case, Mending, Missing, Seen};
 use crate::diagnosis::{Draft, Sought};
 use crate::holders::holder_of;
@@ -16,7 +17,11 @@ use ir_ast::{BlockId, End, Function, Incoming, Operand, Phi, ValueId};
 use std::alloc::AllocError;
 
 /// What comes in from a block.
-pub(crate) fn operand_from(function: &Function, incoming: &[Incoming], from: BlockId) -> Option<Operand> {
+pub(crate) fn operand_from(
+    function: &Function,
+    incoming: &[Incoming],
+    from: BlockId,
+) -> Option<Operand> {
     for entry in incoming {
         if is_block(function, entry.from, from) {
             return Some(entry.operand);
@@ -28,7 +33,7 @@ pub(crate) fn operand_from(function: &Function, incoming: &[Incoming], from: Blo
 /// The place of the phi that gives a value.
 fn phi_place(phis: &[Phi], value: ValueId) -> Option<usize> {
     for (place, phi) in phis.iter().enumerate() {
-        if phi.value.number() == value.number() {
+        if phi.value == value {
             return Some(place);
         }
     }
@@ -105,8 +110,7 @@ pub(crate) fn learned(
 
 /// The claim that is not implied.
 fn claim_at(scene: &Scene, detail: &Detail) -> Option<Claim> {
-    let section = scene.context.certs.section(scene.refusal.func)?;
-    let claims = section.blocks.get(detail.target.number() as usize)?;
+    let claims = claims_of(&scene.context, scene.refusal.func, detail.target);
     claims.get(detail.claim).copied()
 }
 
@@ -185,7 +189,7 @@ fn note_phi(found: &mut Draft, told: &Told, target: BlockId, value: ValueId, mis
         _ => Seen::ComesIn,
     };
     if let Some(spot) = phi_of(scene.context.function, target, value) {
-        found.note(told, &spot, told.it, seen);
+        found.note(told, &spot, told.holes.it, seen);
     }
 }
 
@@ -198,7 +202,7 @@ fn find_word(found: &mut Draft, told: &Told, operand: Operand) {
 /// Why a claim is not shown by what comes in, and what mends it.
 fn find_why(found: &mut Draft, told: &Told, operand: Operand, missing: &Missing) {
     match missing {
-        Missing::All => match value_in(told.it) {
+        Missing::All => match value_in(told.holes.it) {
             Some(value) => find_cause(found, told, value),
             None => found.mend(told, Mending::OfCase),
         },

@@ -1,5 +1,5 @@
 //! From which blocks each block of a function is entered.
-use ir_ast::{Block, End, Function, ValueId};
+use ir_ast::{End, Function, ValueId};
 use number_tables::Buckets;
 use std::alloc::{AllocError, Global};
 use types::target_of;
@@ -12,52 +12,43 @@ pub(crate) fn predecessors_of(alloc: Global, function: &Function) -> Result<Buck
     predecessors
 }
 
-/// Each block with one that leads to it.
-fn edges_of(alloc: Global, function: &Function) -> Result<Vec<(usize, u32)>, AllocError> {
-    let mut edges = Vec::new(alloc);
-    let mut from = 0u32;
-    for block in function.blocks.as_slice() {
-        add_edges(&mut edges, function, from, block)?;
-        from = from.saturating_add(1);
-    }
-    Ok(edges)
-}
-
-fn add_edges(
-    edges: &mut Vec<(usize, u32)>,
-    function: &Function,
-    from: u32,
-    block: &Block,
-) -> Result<(), AllocError> {
-    match &block.end {
-        End::Jump(label) => add_edge(edges, function, from, *label),
+/// The labels to which the end of a block leads, one for each edge.
+pub(crate) fn labels_of(alloc: Global, end: &End) -> Result<Vec<ValueId>, AllocError> {
+    let mut labels = Vec::new(alloc);
+    match end {
+        End::Jump(label) => labels.push(*label)?,
         End::Branch { taken, other, .. } => {
-            add_edge(edges, function, from, *taken)?;
-            add_edge(edges, function, from, *other)
+            labels.push(*taken)?;
+            labels.push(*other)?
         }
         End::Switch {
             otherwise,
             cases,
             ..
         } => {
-            add_edge(edges, function, from, *otherwise)?;
+            labels.push(*otherwise)?;
             for case in cases.as_slice() {
-                add_edge(edges, function, from, case.target)?;
+                labels.push(case.target)?;
             }
-            Ok(())
         }
-        End::Unreachable | End::ReturnVoid | End::Return(_) => Ok(()),
+        End::Unreachable | End::ReturnVoid | End::Return(_) => {}
     }
+    Ok(labels)
 }
 
-fn add_edge(
-    edges: &mut Vec<(usize, u32)>,
-    function: &Function,
-    from: u32,
-    label: ValueId,
-) -> Result<(), AllocError> {
-    if let Some(to) = target_of(function, label) {
-        edges.push((to.number() as usize, from))?;
+/// Each block with one that leads to it.
+fn edges_of(alloc: Global, function: &Function) -> Result<Vec<(usize, u32)>, AllocError> {
+    let mut edges = Vec::new(alloc);
+    let mut from = 0u32;
+    for block in function.blocks.as_slice() {
+        let labels = labels_of(alloc, &block.end)?;
+        for label in labels.as_slice() {
+            if let Some(to) = target_of(function, *label) {
+                edges.push((to.number() as usize, from))?;
+            }
+        }
+        drop(labels);
+        from = from.saturating_add(1);
     }
-    Ok(())
+    Ok(edges)
 }

@@ -69,7 +69,7 @@ impl<'a> UnderDiagnosis<'a> {
 
     /// Whether this is the function with this number.
     pub fn is_of(&self, func: FuncId) -> bool {
-        self.func.number() == func.number()
+        self.func == func
     }
 
     /// What is wrong with a refused instruction of the function, what is known there, and what mends it.

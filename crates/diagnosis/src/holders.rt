@@ -1,4 +1,5 @@
 //! What else leads to a cell that a block claims to be fresh: with `fresh` all of that is claimed.
+use crate::before::claims_of;
 use crate::cases::Missing;
 use crate::edges::{before_edge, operand_from};
 use crate::scene::{Scene, block_at};
@@ -8,36 +9,12 @@ use certs::{Age, Claim, Fact};
 use facts::ClassId;
 use ir_ast::{BlockId, Operand, ValueId};
 
-/// The claims of a block.
-fn claims_of<'a>(scene: &Scene<'a>, block: BlockId) -> &'a [Claim] {
-    match scene.context.certs.section(scene.refusal.func) {
-        Some(section) => match section.blocks.get(block.number() as usize) {
-            Some(claims) => claims.as_slice(),
-            None => &[],
-        },
-        None => &[],
-    }
-}
-
-fn is_same_value(one: ValueId, other: ValueId) -> bool {
-    one.number() == other.number()
-}
-
 /// Whether some claims say what a slot holds.
 fn says_held(claims: &[Claim], name: ValueId) -> bool {
-    for claim in claims {
-        if let Claim::Slot {
-            slot,
-            holds: Some(_),
-            ..
-        } = claim
-        {
-            if is_same_value(*slot, name) {
-                return true;
-            }
-        }
-    }
-    false
+    claims.iter().any(|claim| match claim {
+        Claim::Slot { slot, holds, .. } => *slot == name && holds.is_some(),
+        Claim::Value { .. } => false,
+    })
 }
 
 /// The slot that holds a class before the edge, and of which the claims do not say what it holds.
@@ -56,10 +33,7 @@ fn unsaid_slot(scene: &Scene, claims: &[Claim], class: ClassId) -> Option<ValueI
 /// Whether an operand is of a class before the edge.
 fn is_of_class(scene: &Scene, operand: Option<Operand>, class: ClassId) -> bool {
     match value_in(operand) {
-        Some(value) => match class_of(scene.facts, value) {
-            Some(own) => own.number() == class.number(),
-            None => false,
-        },
+        Some(value) => class_of(scene.facts, value) == Some(class),
         None => false,
     }
 }
@@ -82,24 +56,11 @@ fn phi_with(scene: &Scene, target: BlockId, class: ClassId) -> Option<ValueId> {
     None
 }
 
-/// Whether one of two claims of references says that they are the same.
-fn say_same(value: ValueId, fact: &Fact, other: ValueId, said: &Fact) -> bool {
-    match (fact, said) {
-        (
-            Fact::Reference {
-                same: Some(one),
-                ..
-            },
-            _,
-        ) if is_same_value(*one, other) => true,
-        (
-            _,
-            Fact::Reference {
-                same: Some(one),
-                ..
-            },
-        ) => is_same_value(*one, value),
-        _ => false,
+/// The value that a claim of a reference says to be the same.
+fn same_as(fact: &Fact) -> Option<ValueId> {
+    match fact {
+        Fact::Reference { same, .. } => *same,
+        _ => None,
     }
 }
 
@@ -111,16 +72,17 @@ fn twin_of(
     fact: &Fact,
     class: ClassId,
 ) -> Option<ValueId> {
-    for claim in claims_of(scene, target) {
+    for claim in claims_of(&scene.context, scene.refusal.func, target) {
         if let Claim::Value {
             value: other,
             fact: said,
         } = claim
         {
             if matches!(said, Fact::Reference { .. })
-                && !is_same_value(*other, value)
+                && *other != value
                 && is_of(scene, target, *other, class)
-                && !say_same(value, fact, *other, said)
+                && same_as(fact) != Some(*other)
+                && same_as(said) != Some(value)
             {
                 return Some(*other);
             }
@@ -153,7 +115,8 @@ pub(crate) fn holder_of(
     if let Some(phi) = phi_with(scene, target, class) {
         return Some(Missing::InPhi(phi));
     }
-    if let Some(slot) = unsaid_slot(scene, claims_of(scene, target), class) {
+    let claims = claims_of(&scene.context, scene.refusal.func, target);
+    if let Some(slot) = unsaid_slot(scene, claims, class) {
         return Some(Missing::InSlot(slot));
     }
     let twin = twin_of(scene, target, *value, fact, class)?;

@@ -10,7 +10,7 @@ use std::alloc::AllocError;
 /// Whether a claim is of a value.
 pub(crate) fn is_of(claim: &Claim, value: ValueId) -> bool {
     match claim {
-        Claim::Value { value: other, .. } => other.number() == value.number(),
+        Claim::Value { value: other, .. } => *other == value,
         _ => false,
     }
 }

@@ -50,19 +50,15 @@ fn type_written(scene: &Scene) -> Option<TypeId> {
 fn mismatch_of(scene: &Scene, operand: Option<Operand>) -> Option<(LayoutId, LayoutId)> {
     let found = cell_layout(&scene.facts.known(value_in(operand)?))?;
     let written = layout_of_struct(scene.context.module(), type_written(scene)?)?;
-    if found.number() == written.number() {
+    if found == written {
         return None;
     }
     Some((found, written))
 }
 
 /// What is wrong where another struct is written. Returns whether that is so of the base or the operand.
-pub(crate) fn find_mismatch(
-    draft: &mut Draft,
-    told: &Told,
-    operands: &[Operand],
-) -> bool {
-    let Some((found, written)) = mismatch_of(told.scene, told.it) else {
+pub(crate) fn find_mismatch(draft: &mut Draft, told: &Told, operands: &[Operand]) -> bool {
+    let Some((found, written)) = mismatch_of(told.scene, told.holes.it) else {
         return false;
     };
     draft.case(told, Case::OtherStruct { found, written });

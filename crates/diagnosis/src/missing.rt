@@ -1,7 +1,7 @@
 //! Which word of a claim is missing before an edge.
 use crate::cases::Missing;
 use certs::{Age, Fact};
-use facts::{Class, Facts, Known, SlotFact};
+use facts::{Facts, Known, SlotFact};
 use ir_ast::{BlockId, Constant, Operand, ValueId};
 use pools::LayoutId;
 
@@ -13,44 +13,28 @@ struct Wanted {
     age: Age,
 }
 
-/// What is missing of a reference of this class.
-fn missing_of_class(wanted: Wanted, stale: bool, class: Class) -> Missing {
-    if stale && !matches!(wanted.age, Age::Stale) {
-        Missing::Stale
-    } else if matches!(wanted.age, Age::Fresh) && !class.fresh {
-        Missing::Fresh
-    } else if wanted.nonnull && !class.nonnull {
-        Missing::Nonnull
-    } else {
-        Missing::Other
-    }
-}
-
-/// What is missing of a cell of a layout.
-fn missing_of_cell(wanted: Wanted, layout: LayoutId, stale: bool, class: Class) -> Missing {
-    if layout.number() != wanted.layout.number() {
-        Missing::Layout
-    } else {
-        missing_of_class(wanted, stale, class)
-    }
-}
-
-fn missing_of_null(wanted: Wanted) -> Missing {
-    if wanted.nonnull {
-        Missing::Null
-    } else {
-        Missing::Other
-    }
-}
-
+/// What is missing of a claim on a reference.
 fn missing_of_reference(facts: &Facts, wanted: Wanted, known: &Known) -> Missing {
     match known {
-        Known::Null => missing_of_null(wanted),
+        Known::Null if wanted.nonnull => Missing::Null,
         Known::Cell {
             class,
             layout,
             stale,
-        } => missing_of_cell(wanted, *layout, *stale, facts.class(*class)),
+        } => {
+            let class = facts.class(*class);
+            if *layout != wanted.layout {
+                Missing::Layout
+            } else if *stale && !matches!(wanted.age, Age::Stale) {
+                Missing::Stale
+            } else if matches!(wanted.age, Age::Fresh) && !class.fresh {
+                Missing::Fresh
+            } else if wanted.nonnull && !class.nonnull {
+                Missing::Nonnull
+            } else {
+                Missing::Other
+            }
+        }
         _ => Missing::Other,
     }
 }
@@ -67,31 +51,14 @@ fn known_of(facts: &Facts, operand: &Operand) -> Known {
     }
 }
 
-/// Whether what an address leads to is stale.
-fn is_stale_address(facts: &Facts, known: &Known) -> bool {
-    match known {
-        Known::Address { base, .. } => {
-            matches!(facts.known(*base), Known::Cell { stale: true, .. })
-        }
-        _ => false,
-    }
-}
-
-/// What is missing of a claim that a value is a number.
-fn missing_of_number(known: &Known, below: Option<u64>) -> Missing {
-    if below.is_some() && matches!(known, Known::Number { .. }) {
-        Missing::Below
-    } else {
-        Missing::Other
-    }
-}
-
 /// What is missing of a claim that a value is an address.
 fn missing_of_address(facts: &Facts, known: &Known) -> Missing {
-    if is_stale_address(facts, known) {
-        Missing::Stale
-    } else {
-        Missing::Other
+    match known {
+        Known::Address { base, .. } => match facts.known(*base) {
+            Known::Cell { stale: true, .. } => Missing::Stale,
+            _ => Missing::Other,
+        },
+        _ => Missing::Other,
     }
 }
 
@@ -115,9 +82,10 @@ pub(crate) fn missing_of(facts: &Facts, fact: &Fact, operand: &Operand) -> Missi
             };
             missing_of_reference(facts, wanted, &known)
         }
-        Fact::Number { below, .. } => missing_of_number(&known, *below),
+        Fact::Number { below: Some(_), .. } if matches!(known, Known::Number { .. }) =>
+            Missing::Below,
         Fact::Address { .. } => missing_of_address(facts, &known),
-        Fact::GlobalAddress(_) => Missing::Other,
+        _ => Missing::Other,
     }
 }
 

@@ -4,12 +4,11 @@ use crate::definitions::{Definition, blocks_between, is_missing};
 use crate::diagnosis::{Draft, Unlisted};
 use crate::edges::learned;
 use crate::null_tests::shows_nonnull;
-use crate::scene::{Scene, Spot, block_id, is_among};
+use crate::scene::{Scene, Spot};
 use crate::told::Told;
-use crate::ways::leads_to;
 use certs::Fact;
-use facts::{Class, Facts, Known};
-use ir_ast::{BlockId, Function, ValueId};
+use facts::{Class, Known};
+use ir_ast::{BlockId, ValueId};
 use std::alloc::AllocError;
 
 /// Of how many blocks it is found at most which edges into them show.
@@ -17,22 +16,6 @@ const SHOWN: usize = 64;
 
 /// How many edges into these blocks there are at most.
 const EDGES: usize = 1024;
-
-/// Those of some blocks that have to list a value, and do not.
-fn missing_among(
-    scene: &Scene,
-    from: &Option<BlockId>,
-    blocks: &[BlockId],
-    value: ValueId,
-) -> Result<Vec<BlockId>, AllocError> {
-    let mut found = Vec::new(scene.alloc);
-    for block in blocks {
-        if is_missing(scene, from, *block, value) {
-            found.push(*block)?;
-        }
-    }
-    Ok(found)
-}
 
 /// The blocks that have to list a value, and do not.
 fn missing(
@@ -42,9 +25,14 @@ fn missing(
 ) -> Result<Vec<BlockId>, AllocError> {
     let from = definition.block();
     let blocks = blocks_between(scene, &from, scene.refusal.block)?;
-    let found = missing_among(scene, &from, blocks.as_slice(), value);
+    let mut found = Vec::new(scene.alloc);
+    for block in blocks.as_slice() {
+        if is_missing(scene, &from, *block, value) {
+            found.push(*block)?;
+        }
+    }
     drop(blocks);
-    found
+    Ok(found)
 }
 
 /// What is known of the class of a reference on an edge. Of one that is stale there nothing is.
@@ -59,25 +47,19 @@ fn class_on_edge(
         place: usize::MAX,
     })?;
     let facts = learned(facts, scene.context.function, from, to)?;
-    let class = current_class(&facts, value);
-    drop(facts);
-    Ok(class)
-}
-
-fn current_class(facts: &Facts, value: ValueId) -> Class {
-    let known = facts.known(value);
-    class_known(facts, &known)
-}
-
-/// The same by what is known of the reference.
-fn class_known(facts: &Facts, known: &Known) -> Class {
-    match known {
-        Known::Cell { class, stale, .. } if !*stale => facts.class(*class),
+    let class = match facts.known(value) {
+        Known::Cell {
+            class,
+            stale: false,
+            ..
+        } => facts.class(class),
         _ => Class {
             nonnull: false,
             fresh: false,
         },
-    }
+    };
+    drop(facts);
+    Ok(class)
 }
 
 /// Whether an edge shows that a value is not null, if the first blocks may list it as such.
@@ -88,7 +70,7 @@ fn is_nonnull_on_edge(
     to: BlockId,
     listed: &[BlockId],
 ) -> Result<bool, AllocError> {
-    if is_among(listed, from) || shows_nonnull(scene.context.function, value, from, to) {
+    if listed.contains(&from) || shows_nonnull(scene.context.function, value, from, to) {
         return Ok(true);
     }
     Ok(class_on_edge(scene, value, from, to)?.nonnull)
@@ -101,12 +83,9 @@ fn is_nonnull_at(
     to: BlockId,
     listed: &[BlockId],
 ) -> Result<bool, AllocError> {
-    let function = scene.context.function;
-    for (place, block) in function.blocks.as_slice().iter().enumerate() {
-        if let (true, Some(from)) = (leads_to(function, &block.end, to), block_id(place)) {
-            if !is_nonnull_on_edge(scene, value, from, to, listed)? {
-                return Ok(false);
-            }
+    for from in scene.entered.group(to.number() as usize) {
+        if !is_nonnull_on_edge(scene, value, BlockId::new(*from), to, listed)? {
+            return Ok(false);
         }
     }
     Ok(true)
@@ -114,12 +93,9 @@ fn is_nonnull_at(
 
 /// Whether each edge into a block shows that a value is fresh.
 fn is_fresh_at(scene: &Scene, value: ValueId, to: BlockId) -> Result<bool, AllocError> {
-    let function = scene.context.function;
-    for (place, block) in function.blocks.as_slice().iter().enumerate() {
-        if let (true, Some(from)) = (leads_to(function, &block.end, to), block_id(place)) {
-            if !class_on_edge(scene, value, from, to)?.fresh {
-                return Ok(false);
-            }
+    for from in scene.entered.group(to.number() as usize) {
+        if !class_on_edge(scene, value, BlockId::new(*from), to)?.fresh {
+            return Ok(false);
         }
     }
     Ok(true)
@@ -169,7 +145,7 @@ fn shown_by(
     for block in blocks {
         found.push(Unlisted {
             block: *block,
-            nonnull: is_among(nonnull, *block),
+            nonnull: nonnull.contains(block),
             fresh: is_fresh_at(scene, value, *block)?,
         })?;
     }
@@ -188,29 +164,31 @@ fn shown_at(
     found
 }
 
-/// From how many blocks edges lead into a block.
-fn edges_into(function: &Function, to: BlockId) -> usize {
+/// From how many blocks edges lead into a block. Those of one block stand together.
+fn edges_into(scene: &Scene, to: BlockId) -> usize {
     let mut edges: usize = 0;
-    for block in function.blocks.as_slice() {
-        if leads_to(function, &block.end, to) {
+    let mut last = None;
+    for from in scene.entered.group(to.number() as usize) {
+        if last != Some(*from) {
             edges = edges.saturating_add(1);
         }
+        last = Some(*from);
     }
     edges
 }
 
 /// Whether few edges lead into some blocks.
-fn are_entered_by_few(function: &Function, blocks: &[BlockId]) -> bool {
+fn are_entered_by_few(scene: &Scene, blocks: &[BlockId]) -> bool {
     let mut edges: usize = 0;
     for to in blocks {
-        edges = edges.saturating_add(edges_into(function, *to));
+        edges = edges.saturating_add(edges_into(scene, *to));
     }
     edges <= EDGES
 }
 
 /// Whether it is found what the edges into some blocks show.
 fn are_shown(scene: &Scene, blocks: &[BlockId]) -> bool {
-    blocks.len() <= SHOWN && are_entered_by_few(scene.context.function, blocks)
+    blocks.len() <= SHOWN && are_entered_by_few(scene, blocks)
 }
 
 /// The same, where nothing is said of edges.

@@ -81,15 +81,19 @@ fn runtime_call<'a>(scene: &Scene<'a>) -> Option<(Runtime, &'a [Argument])> {
     Some((runtime, call.arguments.as_slice()))
 }
 
+/// Whether an operand is the address of a global.
+pub(crate) fn is_global(operand: Operand) -> bool {
+    matches!(operand, Operand::Global(_) | Operand::CastGlobal { .. })
+}
+
 /// Whether an operand is the address of a global, or of a word.
-fn is_address(scene: &Scene, operand: Operand) -> bool {
-    match operand {
-        Operand::Global(_) | Operand::CastGlobal { .. } => true,
-        Operand::Local(value) => matches!(
+pub(crate) fn is_address(scene: &Scene, operand: Operand) -> bool {
+    match local(operand) {
+        Some(value) => matches!(
             scene.facts.known(value),
             Known::Address { .. } | Known::GlobalAddress(_)
         ),
-        Operand::Constant(_) => false,
+        None => is_global(operand),
     }
 }
 
@@ -120,12 +124,7 @@ fn is_element(scene: &Scene, operand: Operand) -> bool {
 /// The first address that comes in for a phi.
 fn address_among(scene: &Scene, incoming: &[Incoming]) -> Option<Wrong> {
     for entry in incoming {
-        if is_element(scene, entry.operand)
-            || matches!(
-                entry.operand,
-                Operand::Global(_) | Operand::CastGlobal { .. }
-            )
-        {
+        if is_element(scene, entry.operand) || is_global(entry.operand) {
             return Some(Wrong::of(Mistyped::Entry, entry.operand));
         }
     }

@@ -39,7 +39,12 @@ fn shows(instr: &Instr, value: ValueId, on: bool) -> bool {
 }
 
 /// Whether a branch shows on its edge from one block to another that a value is not null.
-pub(crate) fn shows_nonnull(function: &Function, value: ValueId, from: BlockId, to: BlockId) -> bool {
+pub(crate) fn shows_nonnull(
+    function: &Function,
+    value: ValueId,
+    from: BlockId,
+    to: BlockId,
+) -> bool {
     let Some(block) = block_at(function, from) else {
         return false;
     };

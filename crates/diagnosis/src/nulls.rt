@@ -22,26 +22,16 @@ pub(crate) fn is_made_here(scene: &Scene, value: ValueId) -> bool {
 
 /// Whether an operand names a value.
 pub(crate) fn is_value(value: ValueId, operand: Option<Operand>) -> bool {
-    match value_in(operand) {
-        Some(other) => value.number() == other.number(),
-        None => false,
-    }
-}
-
-/// Whether two operands name the same value.
-pub(crate) fn is_same(one: Option<Operand>, other: Option<Operand>) -> bool {
-    match value_in(one) {
-        Some(one) => is_value(one, other),
-        None => false,
-    }
+    value_in(operand) == Some(value)
 }
 
 /// The place, whose base may be null.
 pub(crate) fn find_place(found: &mut Draft, told: &Told) {
-    if told.place.is_none() || is_same(told.it, told.place) {
+    let base = value_in(told.holes.it);
+    if told.holes.place.is_none() || (base.is_some() && base == value_in(told.holes.place)) {
         return found.case(told, Case::NullableBase);
     }
-    found.case_under(told, Case::NullablePlace, told.place)
+    found.case_under(told, Case::NullablePlace, told.holes.place)
 }
 
 /// Of which value an instruction gives a place in its cell, or another name.
@@ -76,12 +66,12 @@ fn made_of(scene: &Scene, base: ValueId, place: ValueId) -> Option<Made> {
 
 /// Where the base came in.
 pub(crate) fn note_base(found: &mut Draft, told: &Told) {
-    let (Some(place), Some(base)) = (value_in(told.place), value_in(told.it)) else {
+    let (Some(place), Some(base)) = (value_in(told.holes.place), value_in(told.holes.it)) else {
         return;
     };
     if let Some(made) = made_of(told.scene, base, place) {
         let told = told.with_place(Some(Operand::Local(made.value)));
-        found.note(&told, &made.spot, told.it, Seen::Base);
+        found.note(&told, &made.spot, told.holes.it, Seen::Base);
     }
 }
 
@@ -133,7 +123,7 @@ fn mend_claimed(found: &mut Draft, told: &Told, value: ValueId) {
 /// What shows that it is not null.
 pub(crate) fn mend_nullable(found: &mut Draft, told: &Told) {
     found.mend(told, Mending::CompareWithNull);
-    if let Some(value) = value_in(told.it) {
+    if let Some(value) = value_in(told.holes.it) {
         mend_claimed(found, told, value);
     }
 }

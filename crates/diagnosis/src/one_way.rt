@@ -2,12 +2,13 @@
 use crate::cases::{Loaded, Mending, Seen};
 use crate::definitions::{blocks_between, defining};
 use crate::diagnosis::Draft;
+use crate::entered::labels_of;
 use crate::nulls::is_value;
 use crate::operands::operands_of;
-use crate::scene::{Scene, Spot, There, block_at, is_among};
+use crate::scene::{Scene, Spot, There, block_at};
 use crate::told::{Told, local, value_in};
 use crate::unknown::note_definition;
-use ir_ast::{Block, BlockId, End, Function, Instr, MemoryOp, Op, Operand, ValueId};
+use ir_ast::{Block, BlockId, Instr, MemoryOp, Op, Operand, ValueId};
 use std::alloc::AllocError;
 use types::target_of;
 
@@ -52,45 +53,18 @@ fn used_in(scene: &Scene, block: &Block, value: ValueId) -> Result<Option<usize>
     }
 }
 
-/// Appends the block of a label, if it is not among them.
-fn add_target(
-    function: &Function,
-    label: ValueId,
-    found: &mut Vec<BlockId>,
-) -> Result<(), AllocError> {
-    if let Some(id) = target_of(function, label) {
-        if found.len() < FAR && !is_among(found.as_slice(), id) {
-            found.push(id)?;
-        }
-    }
-    Ok(())
-}
-
 /// Appends the blocks to which one leads, each once.
-fn add_next(
-    function: &Function,
-    block: &Block,
-    found: &mut Vec<BlockId>,
-) -> Result<(), AllocError> {
-    match &block.end {
-        End::Jump(label) => add_target(function, *label, found),
-        End::Branch { taken, other, .. } => {
-            add_target(function, *taken, found)?;
-            add_target(function, *other, found)
-        }
-        End::Switch {
-            otherwise,
-            cases,
-            ..
-        } => {
-            add_target(function, *otherwise, found)?;
-            for case in cases.as_slice() {
-                add_target(function, case.target, found)?;
+fn add_next(scene: &Scene, block: &Block, found: &mut Vec<BlockId>) -> Result<(), AllocError> {
+    let labels = labels_of(scene.alloc, &block.end)?;
+    for label in labels.as_slice() {
+        if let Some(id) = target_of(scene.context.function, *label) {
+            if found.len() < FAR && !found.contains(&id) {
+                found.push(id)?;
             }
-            Ok(())
         }
-        End::Unreachable | End::ReturnVoid | End::Return(_) => Ok(()),
     }
+    drop(labels);
+    Ok(())
 }
 
 /// The first instruction from the beginning of a block on that reads a value.
@@ -106,7 +80,7 @@ fn first_use(scene: &Scene, from: BlockId, value: ValueId) -> Result<Option<Spot
             if let Some(place) = used_in(scene, block, value)? {
                 return Ok(Some(Spot { block: id, place }));
             }
-            add_next(function, block, &mut found)?;
+            add_next(scene, block, &mut found)?;
         }
     }
     Ok(None)
@@ -137,14 +111,14 @@ fn load_of(scene: &Scene, value: ValueId) -> Option<(Loaded, Operand)> {
 /// Whether a way leads from the block that defines the value to another one.
 fn is_on_a_way(scene: &Scene, by: BlockId, to: BlockId) -> Result<bool, AllocError> {
     let blocks = blocks_between(scene, &None, to)?;
-    let is_on = is_among(blocks.as_slice(), by);
+    let is_on = blocks.contains(&by);
     drop(blocks);
     Ok(is_on)
 }
 
 /// What mends it where the value is no load from a slot.
 fn mend_without_load(found: &mut Draft, told: &Told, at: BlockId) {
-    let Some(by) = told.by else {
+    let Some(by) = told.holes.by else {
         return;
     };
     match is_on_a_way(told.scene, by, at) {
@@ -156,7 +130,7 @@ fn mend_without_load(found: &mut Draft, told: &Told, at: BlockId) {
 
 /// What mends it: the load again, or a phi. The value is used at a block.
 fn mend_one_way(found: &mut Draft, told: &Told, at: BlockId) {
-    let load = match value_in(told.it) {
+    let load = match value_in(told.holes.it) {
         Some(value) => load_of(told.scene, value),
         None => None,
     };
@@ -176,13 +150,13 @@ pub(crate) fn find_one_way_here(found: &mut Draft, told: &Told) {
 
 /// Where a value is defined and used that an edge to this block does not have, and what mends it.
 pub(crate) fn find_one_way_on(found: &mut Draft, told: &Told, target: BlockId) {
-    let Some(value) = value_in(told.it) else {
+    let Some(value) = value_in(told.holes.it) else {
         return;
     };
     note_definition(found, told, Seen::DefinedIn);
     match first_use(told.scene, target, value) {
         Ok(Some(spot)) => {
-            found.note(told, &spot, told.it, Seen::Used);
+            found.note(told, &spot, told.holes.it, Seen::Used);
             mend_one_way(found, told, spot.block)
         }
         Ok(None) => found.mend(told, Mending::UnusedClaim),

@@ -5,7 +5,6 @@ use crate::told::{call_of, local};
 use block_rules::TypeKind;
 use facts::Known;
 use ir_ast::{Call, Declare, Module, Operand, SymbolId, SymbolSort};
-
 use outside_names::is_outside_operand;
 use types::is_outside;
 

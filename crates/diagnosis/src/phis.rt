@@ -1,7 +1,6 @@
 //! K16: an entry of a phi that is missing, or one too many.
 use crate::cases::Entries;
 use crate::scene::{Scene, There, block_id};
-use crate::ways::leads_to;
 use ir_ast::{BlockId, Function, Incoming};
 use number_tables::{put, row_or};
 use std::alloc::{AllocError, Global};
@@ -22,18 +21,24 @@ fn entered_from(
     Ok(entered)
 }
 
-/// The first block that leads to this one without an entry, or has one and does not lead here.
-fn first_wrong(function: &Function, entered: &[bool], here: BlockId) -> Entries {
-    for (place, block) in function.blocks.as_slice().iter().enumerate() {
+/// For each block of a function whether it leads to the refused phi.
+fn leading(scene: &Scene) -> Result<Vec<bool>, AllocError> {
+    let mut leads = vec![in scene.alloc; false; scene.context.function.blocks.len()]?;
+    let here = scene.refusal.block.number() as usize;
+    for from in scene.entered.group(here) {
+        put(&mut leads, *from as usize, true);
+    }
+    Ok(leads)
+}
+
+/// The first block that leads to the phi without an entry, or has one and does not lead there.
+fn first_wrong(leading: &[bool], entered: &[bool]) -> Entries {
+    for (place, leads) in leading.iter().enumerate() {
         if let Some(id) = block_id(place) {
-            let leads = leads_to(function, &block.end, here);
-            let has = row_or(entered, place, false);
-            if leads != has {
-                return if leads {
-                    Entries::Missing(id)
-                } else {
-                    Entries::Extra(id)
-                };
+            match (*leads, row_or(entered, place, false)) {
+                (true, false) => return Entries::Missing(id),
+                (false, true) => return Entries::Extra(id),
+                _ => {}
             }
         }
     }
@@ -42,17 +47,12 @@ fn first_wrong(function: &Function, entered: &[bool], here: BlockId) -> Entries 
 
 /// What is wrong with the entries of the refused phi.
 pub(crate) fn entries_of(scene: &Scene) -> Result<Entries, AllocError> {
-    match scene.there() {
-        There::Phi(phi) => entries_in(scene, phi.incoming.as_slice()),
-        _ => Ok(Entries::Other),
-    }
-}
-
-/// What is wrong with these entries.
-fn entries_in(scene: &Scene, incoming: &[Incoming]) -> Result<Entries, AllocError> {
-    let function = scene.context.function;
-    let entered = entered_from(scene.alloc, function, incoming)?;
-    Ok(first_wrong(function, entered.as_slice(), scene.refusal.block))
+    let There::Phi(phi) = scene.there() else {
+        return Ok(Entries::Other);
+    };
+    let leads = leading(scene)?;
+    let entered = entered_from(scene.alloc, scene.context.function, phi.incoming.as_slice())?;
+    Ok(first_wrong(leads.as_slice(), entered.as_slice()))
 }
 
 /// The block of the entry that is wrong.

@@ -2,13 +2,12 @@
 use crate::cases::{Case, Mending, Seen, Unkept};
 use crate::cells::cell_layout;
 use crate::diagnosis::{At, Draft, Sought};
-use crate::scene::{Scene, There};
+use crate::scene::{Scene, There, defined_as};
 use crate::told::{Told, call_of};
 use block_rules::known_of;
-use certs::{Promise, Section};
+use certs::Promise;
 use facts::{Facts, Known};
-use ir_ast::{Constant, End, FuncId, Function, Operand, SymbolSort, ValueId};
-
+use ir_ast::{Constant, End, FuncId, Operand, ValueId};
 use pools::LayoutId;
 
 /// An argument that does not keep what is promised of its parameter.
@@ -74,17 +73,8 @@ fn is_small(promised: Option<u64>, known: &Known) -> bool {
 }
 
 /// The function of the module that is called.
-pub(crate) fn callee_of(scene: &Scene) -> Option<FuncId> {
-    let call = call_of(scene)?;
-    match scene
-        .context
-        .module()
-        .sorts
-        .get(call.callee.number() as usize)
-    {
-        Some(SymbolSort::Defined(func)) => Some(*func),
-        _ => None,
-    }
+fn callee_of(scene: &Scene) -> Option<FuncId> {
+    defined_as(scene.context.module(), call_of(scene)?.callee)
 }
 
 fn broken_at(scene: &Scene, number: usize, operand: Operand) -> Option<Broken> {

@@ -12,7 +12,7 @@ use crate::promised::{find_argument, find_result, returned};
 use crate::scene::Scene;
 use crate::stale::find_lost;
 use crate::subjects::{arguments_of, is_runtime_call, place_of, subject_of};
-use crate::told::{Told, op_of, value_in};
+use crate::told::{Holes, Told, op_of, value_in};
 use crate::unfresh::note_unfresh;
 use crate::unknown::{find_unavailable, note_definition};
 use crate::unrooted::find_unrooted;
@@ -36,11 +36,12 @@ fn may_be_barrier(scene: &Scene) -> bool {
 /// What a diagnosis of the refused instruction speaks of.
 fn told_of<'a>(scene: &'a Scene<'a>, operands: &[Operand]) -> Told<'a> {
     let place = place_in(scene);
-    Told {
+    let told = Told::of(scene, subject_of(scene, operands));
+    told.with(Holes {
         place,
         base: base_of(scene, &place),
-        ..Told::of(scene, subject_of(scene, operands))
-    }
+        ..told.holes
+    })
 }
 
 /// What a rule says of an instruction where nothing more depends on that.
@@ -51,7 +52,7 @@ fn find_by_rule(found: &mut Draft, told: &Told, rule: Rule) {
 
 /// K1.
 fn find_unknown(found: &mut Draft, told: &Told) {
-    match value_in(told.it) {
+    match value_in(told.holes.it) {
         Some(value) => find_unavailable(found, told, value),
         None => find_by_rule(found, told, Rule::K18),
     }
@@ -82,13 +83,19 @@ fn find_out_of_cell(found: &mut Draft, told: &Told, operands: &[Operand]) {
 
 /// K6.
 fn find_unbarred(found: &mut Draft, told: &Told, operands: &[Operand]) {
-    found.case_under(told, Case::Unbarred(target_of_store(told)), told.place);
+    found.case_under(
+        told,
+        Case::Unbarred(target_of_store(told)),
+        told.holes.place,
+    );
     note_unfresh(found, told);
     found.know(told.scene, operands);
     if let Some(
         Op::Memory(
             MemoryOp::Store {
-                stored, place_type, ..
+                stored,
+                place_type,
+                ..
             },
         ),
     ) = op_of(told.scene)
@@ -103,7 +110,7 @@ fn find_unbarred(found: &mut Draft, told: &Told, operands: &[Operand]) {
 
 /// K7.
 fn find_other_object(found: &mut Draft, told: &Told, operands: &[Operand]) {
-    let case = match told.base {
+    let case = match told.holes.base {
         Some(_) => Case::OtherObject,
         None => Case::NoObject,
     };

@@ -2,7 +2,9 @@
 use crate::before::facts_before;
 use block_rules::{Refusal, RuleContext};
 use facts::Facts;
-use ir_ast::{Block, BlockId, End, Function, Instr, Operand, Phi};
+use ir_ast::{
+    Block, BlockId, End, FuncId, Function, Instr, Module, Operand, Phi, SymbolId, SymbolSort,
+};
 use number_tables::Buckets;
 use std::alloc::{AllocError, Global};
 
@@ -46,9 +48,12 @@ pub(crate) fn block_id(place: usize) -> Option<BlockId> {
     }
 }
 
-/// Whether a block is among some.
-pub(crate) fn is_among(blocks: &[BlockId], block: BlockId) -> bool {
-    blocks.iter().any(|other| other.number() == block.number())
+/// The function of the module that a name stands for.
+pub(crate) fn defined_as(of_module: &Module, symbol: SymbolId) -> Option<FuncId> {
+    match of_module.sorts.get(symbol.number() as usize) {
+        Some(SymbolSort::Defined(func)) => Some(*func),
+        _ => None,
+    }
 }
 
 /// The instruction of a body at a place of a function.

@@ -19,18 +19,19 @@ pub(crate) fn class_of(facts: &Facts, value: ValueId) -> Option<ClassId> {
 }
 
 /// The slot that an instruction makes, if it holds what is of this class.
-pub(crate) fn slot_with(scene: &Scene, facts: &Facts, instr: &Instr, class: ClassId) -> Option<ValueId> {
+pub(crate) fn slot_with(
+    scene: &Scene,
+    facts: &Facts,
+    instr: &Instr,
+    class: ClassId,
+) -> Option<ValueId> {
     if !matches!(instr.op, Op::Memory(MemoryOp::Alloca(_))) {
         return None;
     }
     let name = instr.result?;
     let slot = scene.context.slots.slot_of(name)?;
     let held = facts.slot(slot).holds?;
-    if held.number() == class.number() {
-        Some(name)
-    } else {
-        None
-    }
+    if held == class { Some(name) } else { None }
 }
 
 /// The root slot that holds a reference.
@@ -99,7 +100,7 @@ fn mend_lost(found: &mut Draft, told: &Told, lost: &Lost) {
 pub(crate) fn find_lost(found: &mut Draft, told: &Told, operands: &[Operand]) {
     let scene = told.scene;
     found.know(scene, operands);
-    match lost_before(scene, &scene.spot(), value_in(told.it)) {
+    match lost_before(scene, &scene.spot(), value_in(told.holes.it)) {
         Ok(Some(lost)) => {
             let told = told.with_it(Some(Operand::Local(lost.value)));
             found.note(&told, &lost.spot, None, Seen::Lost);

@@ -44,65 +44,58 @@ pub struct Holes {
 #[derive(Clone, Copy)]
 pub(crate) struct Told<'a> {
     pub(crate) scene: &'a Scene<'a>,
-    pub(crate) it: Option<Operand>,
-    pub(crate) place: Option<Operand>,
-    pub(crate) base: Option<Operand>,
-    pub(crate) other: Option<BlockId>,
-    pub(crate) by: Option<BlockId>,
-    pub(crate) number: u64,
+    pub(crate) holes: Holes,
 }
 
 impl<'a> Told<'a> {
     /// Sentences of one operand.
     pub(crate) fn of(scene: &'a Scene<'a>, it: Option<Operand>) -> Told<'a> {
-        Told {
-            scene,
+        let holes = Holes {
+            func: scene.refusal.func,
+            here: scene.refusal.block,
+            callee: match call_of(scene) {
+                Some(call) => Some(call.callee),
+                None => None,
+            },
             it,
             place: None,
             base: None,
             other: None,
             by: None,
             number: 0,
-        }
+        };
+        Told { scene, holes }
     }
 
-    /// What fills the holes, as plain data.
-    pub(crate) fn holes(&self) -> Holes {
-        let refusal = self.scene.refusal;
-        Holes {
-            func: refusal.func,
-            here: refusal.block,
-            callee: match call_of(self.scene) {
-                Some(call) => Some(call.callee),
-                None => None,
-            },
-            it: self.it,
-            place: self.place,
-            base: self.base,
-            other: self.other,
-            by: self.by,
-            number: self.number,
-        }
+    /// The same with other holes.
+    pub(crate) fn with(&self, holes: Holes) -> Told<'a> {
+        Told { holes, ..*self }
     }
 
     /// Sentences of another operand.
     pub(crate) fn with_it(&self, it: Option<Operand>) -> Told<'a> {
-        Told { it, ..*self }
+        self.with(Holes { it, ..self.holes })
     }
 
     /// Sentences with this place, or with what else leads to the cell.
     pub(crate) fn with_place(&self, place: Option<Operand>) -> Told<'a> {
-        Told { place, ..*self }
+        self.with(Holes {
+            place,
+            ..self.holes
+        })
     }
 
     /// Sentences with a block that defines what they speak of.
     pub(crate) fn with_definer(&self, by: Option<BlockId>) -> Told<'a> {
-        Told { by, ..*self }
+        self.with(Holes { by, ..self.holes })
     }
 
     /// Sentences with another block.
     pub(crate) fn with_block(&self, other: Option<BlockId>) -> Told<'a> {
-        Told { other, ..*self }
+        self.with(Holes {
+            other,
+            ..self.holes
+        })
     }
 }
 

@@ -41,40 +41,15 @@ struct Unfresh {
     spot: Spot,
 }
 
-fn is_of_class(facts: &Facts, value: ValueId, class: &Option<ClassId>) -> bool {
-    match (class_of(facts, value), class) {
-        (Some(own), Some(class)) => own.number() == class.number(),
-        _ => false,
-    }
-}
-
-/// Where a cell lost `fresh` in the block under a name, if that is one of its names.
-fn unfresh_under(
-    scene: &Scene,
-    name: ValueId,
-    class: &Option<ClassId>,
-) -> Result<Option<Unfresh>, AllocError> {
-    if !is_of_class(scene.facts, name, class) {
-        return Ok(None);
-    }
-    match unfresh_at(scene, name)? {
-        Some(spot) => Ok(Some(Unfresh { name, spot })),
-        None => Ok(None),
-    }
-}
-
 /// The value of a number, if it is one of the names of a cell.
-fn name_at(scene: &Scene, number: usize, class: &Option<ClassId>) -> Option<ValueId> {
+fn name_at(scene: &Scene, number: usize, class: ClassId) -> Option<ValueId> {
     let name = ValueId::new(u32::try_from(number).ok()?);
-    if is_of_class(scene.facts, name, class) {
-        Some(name)
-    } else {
-        None
-    }
+    let own = class_of(scene.facts, name)?;
+    if own == class { Some(name) } else { None }
 }
 
 /// Where a cell lost `fresh` in the block, under one of the first of its names.
-fn other_name(scene: &Scene, class: &Option<ClassId>) -> Result<Option<Unfresh>, AllocError> {
+fn other_name(scene: &Scene, class: ClassId) -> Result<Option<Unfresh>, AllocError> {
     let mut left = NAMES;
     for number in 0..scene.context.function.locals.count() {
         if let Some(name) = name_at(scene, number, class) {
@@ -92,10 +67,12 @@ fn other_name(scene: &Scene, class: &Option<ClassId>) -> Result<Option<Unfresh>,
 
 /// Where the cell of a reference lost `fresh` in the block, under its own name or another one.
 fn unfresh_here(scene: &Scene, value: ValueId) -> Result<Option<Unfresh>, AllocError> {
-    let class = class_of(scene.facts, value);
-    match unfresh_under(scene, value, &class)? {
-        Some(unfresh) => Ok(Some(unfresh)),
-        None => other_name(scene, &class),
+    let Some(class) = class_of(scene.facts, value) else {
+        return Ok(None);
+    };
+    match unfresh_at(scene, value)? {
+        Some(spot) => Ok(Some(Unfresh { name: value, spot })),
+        None => other_name(scene, class),
     }
 }
 
@@ -169,7 +146,7 @@ fn seen_under(scene: &Scene, value: ValueId, name: ValueId) -> Seen {
 
 /// Where the base of the place lost `fresh`.
 pub(crate) fn note_unfresh(found: &mut Draft, told: &Told) {
-    let Some(value) = value_in(told.base) else {
+    let Some(value) = value_in(told.holes.base) else {
         return;
     };
     match unfresh_of(told.scene, value) {

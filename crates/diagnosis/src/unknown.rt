@@ -91,7 +91,7 @@ fn definer_of(cause: &Cause) -> Option<BlockId> {
 
 /// Where it is defined, if an instruction does that.
 pub(crate) fn note_definition(found: &mut Draft, told: &Told, seen: Seen) {
-    let Some(value) = value_in(told.it) else {
+    let Some(value) = value_in(told.holes.it) else {
         return;
     };
     if let Some(spot) = spot_of(told.scene, value) {

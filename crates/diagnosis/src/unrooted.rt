@@ -108,7 +108,7 @@ fn mend_unrooted(found: &mut Draft, told: &Told, slot: ValueId) {
 
 /// K8.
 pub(crate) fn find_unrooted(found: &mut Draft, told: &Told) {
-    let Some(slot) = value_in(told.it) else {
+    let Some(slot) = value_in(told.holes.it) else {
         return;
     };
     let held = held_in(told.scene, slot);

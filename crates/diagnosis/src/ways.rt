@@ -1,12 +1,10 @@
 //! The ways through a function that lead to an instruction, gone back over block by block.
 use crate::changes::{Change, CodeAt, last_change};
 use crate::operands::reference_of;
-use crate::scene::{Scene, Spot, block_at};
+use crate::scene::{Scene, Spot, block_at, defined_as};
 use crate::told::local;
 use certs::Mark;
-use ir_ast::{
-    Block, BlockId, End, Function, Incoming, Instr, Op, Phi, Runtime, SymbolSort, ValueId,
-};
+use ir_ast::{Block, BlockId, Function, Incoming, Instr, Op, Phi, Runtime, ValueId};
 use std::alloc::AllocError;
 use types::{runtime_called, target_of};
 
@@ -14,7 +12,7 @@ use types::{runtime_called, target_of};
 const FAR: usize = 4096;
 
 /// A place up to which the ways lead, and the value that is followed there.
-#[derive(Clone, Copy)]
+#[derive(Clone, Copy, PartialEq, Eq)]
 struct Way {
     block: BlockId,
     value: ValueId,
@@ -40,42 +38,7 @@ enum Met {
 
 /// Whether a label is that of a block.
 pub(crate) fn is_block(function: &Function, label: ValueId, block: BlockId) -> bool {
-    match target_of(function, label) {
-        Some(found) => found.number() == block.number(),
-        None => false,
-    }
-}
-
-/// Whether a block ends with a way to another.
-pub(crate) fn leads_to(function: &Function, end: &End, block: BlockId) -> bool {
-    match end {
-        End::Jump(label) => is_block(function, *label, block),
-        End::Branch { taken, other, .. } => {
-            is_block(function, *taken, block) || is_block(function, *other, block)
-        }
-        End::Switch {
-            otherwise,
-            cases,
-            ..
-        } => {
-            is_block(function, *otherwise, block)
-                || cases
-                    .as_slice()
-                    .iter()
-                    .any(|case| is_block(function, case.target, block))
-        }
-        _ => false,
-    }
-}
-
-/// Whether a function of the module is marked so that it may reach a safepoint.
-fn is_marked_may(scene: &Scene, sort: Option<&SymbolSort>) -> bool {
-    match sort {
-        Some(SymbolSort::Defined(func)) => {
-            matches!(scene.context.certs.mark(*func), Some(Mark::May))
-        }
-        _ => false,
-    }
+    target_of(function, label) == Some(block)
 }
 
 /// Whether an instruction is a call that may reach a safepoint.
@@ -84,7 +47,10 @@ fn may_reach_safepoint(scene: &Scene, instr: &Instr) -> bool {
     match &instr.op {
         Op::Call(call) => match runtime_called(module, call.callee) {
             Some(runtime) => matches!(runtime, Runtime::Safepoint),
-            None => is_marked_may(scene, module.sorts.get(call.callee.number() as usize)),
+            None => match defined_as(module, call.callee) {
+                Some(func) => matches!(scene.context.certs.mark(func), Some(Mark::May)),
+                None => false,
+            },
         },
         _ => false,
     }
@@ -101,10 +67,7 @@ fn same_under_other_name(instr: &Instr) -> Option<ValueId> {
 
 /// Whether an instruction gives a value its name.
 pub(crate) fn defines(instr: &Instr, value: ValueId) -> bool {
-    match instr.result {
-        Some(result) => result.number() == value.number(),
-        None => false,
-    }
+    instr.result == Some(value)
 }
 
 /// The first instructions, as many as there are up to this number.
@@ -129,15 +92,7 @@ fn met_in(scene: &Scene, body: &[Instr], way: &Way) -> Met {
 }
 
 fn phi_of(phis: &[Phi], value: ValueId) -> Option<&Phi> {
-    phis.iter().find(|phi| phi.value.number() == value.number())
-}
-
-fn is_among(ways: &[Way], way: &Way) -> bool {
-    ways.iter().any(|other| {
-        other.block.number() == way.block.number()
-            && other.value.number() == way.value.number()
-            && other.upto == way.upto
-    })
+    phis.iter().find(|phi| phi.value == value)
 }
 
 fn add(ways: &mut Vec<Way>, block: BlockId, value: ValueId) -> Result<(), AllocError> {
@@ -147,7 +102,7 @@ fn add(ways: &mut Vec<Way>, block: BlockId, value: ValueId) -> Result<(), AllocE
         upto: usize::MAX,
     };
     // No way beyond these is gone over.
-    if ways.len() >= FAR || is_among(ways.as_slice(), &way) {
+    if ways.len() >= FAR || ways.contains(&way) {
         return Ok(());
     }
     ways.push(way)?;
@@ -216,13 +171,7 @@ fn last_stale(scene: &Scene, spot: &Spot, reference: ValueId) -> Result<Option<u
         block: spot.block,
         place: spot.place.saturating_add(1),
     };
-    last_change(
-        scene.alloc,
-        &scene.context,
-        at,
-        reference,
-        Change::Stale,
-    )
+    last_change(scene.alloc, &scene.context, at, reference, Change::Stale)
 }
 
 /// What is found of a value in a block.
@@ -248,20 +197,9 @@ fn found_at(scene: &Scene, spot: &Spot, value: ValueId) -> Result<Found, AllocEr
 }
 
 /// Goes on from one place back to the blocks before.
-fn go_on(
-    scene: &Scene,
-    ways: &mut Vec<Way>,
-    way: &Way,
-    block: &Block,
-) -> Result<(), AllocError> {
+fn go_on(scene: &Scene, ways: &mut Vec<Way>, way: &Way, block: &Block) -> Result<(), AllocError> {
     match name_before(block.body.as_slice(), way) {
-        Some(value) => add_ways(
-            scene,
-            ways,
-            way.block,
-            block.phis.as_slice(),
-            value,
-        ),
+        Some(value) => add_ways(scene, ways, way.block, block.phis.as_slice(), value),
         None => Ok(()),
     }
 }
@@ -278,11 +216,7 @@ fn found_in(scene: &Scene, way: &Way, block: &Block) -> Result<Found, AllocError
 }
 
 /// Goes on from one place back, if the value does not become stale in its block.
-fn go_back(
-    scene: &Scene,
-    ways: &mut Vec<Way>,
-    way: &Way,
-) -> Result<Found, AllocError> {
+fn go_back(scene: &Scene, ways: &mut Vec<Way>, way: &Way) -> Result<Found, AllocError> {
     let Some(block) = block_at(scene.context.function, way.block) else {
         return Ok(Found::Nothing);
     };

@@ -4,8 +4,8 @@ use crate::diagnosis::Draft;
 use crate::scene::Scene;
 use crate::stale::class_of;
 use crate::subjects::arguments_of;
-use crate::told::{Told, value_in};
-use facts::Known;
+use crate::told::{Holes, Told, value_in};
+use facts::{ClassId, Known};
 use ir_ast::Operand;
 
 /// The reference in whose cell an operand is a place.
@@ -20,48 +20,42 @@ pub(crate) fn base_of(scene: &Scene, operand: &Option<Operand>) -> Option<Operan
 
 /// Where a reference is stored without a barrier.
 pub(crate) fn target_of_store(told: &Told) -> Target {
-    match (told.place, told.base) {
+    match (told.holes.place, told.holes.base) {
         (Some(Operand::Global(_) | Operand::CastGlobal { .. }), _) => Target::Global,
         (_, Some(_)) => Target::Cell,
         _ => Target::Other,
     }
 }
 
-/// Whether two operands are the same reference.
-fn are_same(scene: &Scene, one: Option<Operand>, other: Option<Operand>) -> bool {
-    match (value_in(one), value_in(other)) {
-        (Some(one), Some(other)) => match (
-            class_of(scene.facts, one),
-            class_of(scene.facts, other),
-        ) {
-            (Some(one), Some(other)) => one.number() == other.number(),
-            _ => false,
-        },
-        _ => false,
-    }
+/// The class of the reference that an operand names.
+fn class_in(scene: &Scene, operand: Option<Operand>) -> Option<ClassId> {
+    class_of(scene.facts, value_in(operand)?)
 }
 
 /// The value that the refused llvm.gcwrite stores, if the place is in its own cell.
 fn stored_into_itself(told: &Told) -> Option<Operand> {
-    match arguments_of(told.scene) {
-        [value, _, _] if are_same(told.scene, Some(value.operand), told.base) => {
-            Some(value.operand)
-        }
-        _ => None,
+    let [value, _, _] = arguments_of(told.scene) else {
+        return None;
+    };
+    let class = class_in(told.scene, Some(value.operand))?;
+    if class_in(told.scene, told.holes.base) == Some(class) {
+        Some(value.operand)
+    } else {
+        None
     }
 }
 
 /// K7: the object of the place. Where the place is in the cell of the value, this and the object may be changed round.
 pub(crate) fn mend_object(found: &mut Draft, told: &Told) {
     if let Some(value) = stored_into_itself(told) {
-        let swapped = Told {
+        let swapped = told.with(Holes {
             base: Some(value),
-            ..*told
-        };
+            ..told.holes
+        });
         found.mend(&swapped, Mending::ChangeRound);
         return found.mend(&swapped, Mending::NameItself);
     }
-    let mending = match told.base {
+    let mending = match told.holes.base {
         None => Mending::NameNull,
         Some(_) => Mending::NameObject,
     };

@@ -43,18 +43,6 @@ pub(crate) fn put_each(
     }
 }
 
-/// Explains a refusal in a program.
-pub(crate) fn put_in_program(
-    pen: Pen,
-    out: &mut Message,
-    texts: CheckedTexts,
-    program: &Program,
-    certs: &Certs,
-    refusal: Refusal,
-) {
-    put_each(pen, out, texts, program, certs, [refusal].as_slice())
-}
-
 /// Explains the first fault of the texts of the files. The wide forms may stand in the module or not.
 pub(crate) fn put_unread(
     pen: Pen,

@@ -19,14 +19,6 @@ fn wanted(given: &Given) -> &'static str {
     if given.is_place { "i8**" } else { "i8*" }
 }
 
-/// Whether two operands name the same value.
-fn is_same(one: Operand, other: Operand) -> bool {
-    match (local(one), local(other)) {
-        (Some(one), Some(other)) => one.number() == other.number(),
-        _ => false,
-    }
-}
-
 /// Whether a type is `i8*`.
 fn is_bytes(module: &Module, written: TypeId) -> bool {
     match pointee(module, written) {
@@ -135,7 +127,7 @@ fn put_call(out: &mut Message, told: &Told, value: &Given, object: &Given, at: &
 /// The casts and the call. An operand that is given twice is cast once.
 fn put_lines(out: &mut Message, told: &Told, value: &Given, object: &Given, at: &Given) {
     put_cast(out, told, value);
-    if !is_same(value.operand, object.operand) {
+    if local(value.operand).is_none() || local(value.operand) != local(object.operand) {
         put_cast(out, told, object);
     }
     put_cast(out, told, at);

@@ -1,9 +1,7 @@
 //! The words of each case of a diagnosis: a sentence, what stands beside the caret, and what mends it. A hole, as `{it}`, is filled by a
 //! name.
 use block_rules::Rule;
-use diagnosis::{
-    Beyond, Case, Cause, Entries, Held, Missing, Mistyped, Outside, Target, Unkept,
-};
+use diagnosis::{Beyond, Case, Cause, Entries, Held, Missing, Mistyped, Outside, Target, Unkept};
 
 /// The words of a case. What is empty is not said.
 #[derive(Clone, Copy)]

@@ -149,7 +149,8 @@ fn put_slot_type(out: &mut Message, told: &Told, slot: Operand) {
 
 /// The line of the shapes that says to which layout a slot refers begins so.
 fn put_shape_words(out: &mut Message, told: &Told) {
-    let text = "and this one to the shapes, in front of the certificate's sections: root {function} ";
+    let text =
+        "and this one to the shapes, in front of the certificate's sections: root {function} ";
     out.put(MARGIN);
     put_text(out, told, text)
 }
@@ -204,13 +205,7 @@ fn put_barrier(out: &mut Message, told: &Told, mending: &Mending) {
             out.put("in place of the store: ");
             put_line(out, told, OPAQUE_CALL)
         }
-        (
-            Mending::Barrier {
-                stored,
-                place_type,
-            },
-            false,
-        ) => {
+        (Mending::Barrier { stored, place_type }, false) => {
             out.put("in place of the store:\n");
             put_barrier_lines(out, told, *stored, *place_type)
         }
@@ -260,7 +255,12 @@ fn put_mend(out: &mut Message, told: &Told, diagnosis: &Diagnosis, mending: &Men
             put_barrier(out, told, mending)
         }
         Mending::Declare(runtime) => {
-            put_declared(out, told, "declare it so, and call it with these types: ", runtime)
+            put_declared(
+                out,
+                told,
+                "declare it so, and call it with these types: ",
+                runtime,
+            )
         }
         Mending::CallTypes(runtime) => {
             put_declared(out, told, "and call it with these types: ", runtime)

@@ -197,10 +197,12 @@ fn changes_of(
     mending: &Mending,
 ) -> Result<Vec<Change>, AllocError> {
     match mending {
-        Mending::Barrier {
-            stored,
-            place_type,
-        } => barrier_changes(told, &diagnosis.spot(), *stored, *place_type),
+        Mending::Barrier { stored, place_type } => barrier_changes(
+            told,
+            &diagnosis.spot(),
+            *stored,
+            *place_type,
+        ),
         Mending::List(value, fact) => {
             claims_added(told, *value, fact, diagnosis.unlisted.as_slice())
         }

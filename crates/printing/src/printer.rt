@@ -25,7 +25,10 @@ use std::alloc::AllocError;
 /// Where an instruction is: `plain.ll:23:7`; without a place in the text, its block and its number.
 fn put_spot(out: &mut Message, told: &Told, spot: &Spot) {
     let source = told.texts.source;
-    match told.token_number(spot).and_then(|number| source.tokens.get(number)) {
+    match told
+        .token_number(spot)
+        .and_then(|number| source.tokens.get(number))
+    {
         Some(token) => put_path_at(out, source.path, source.lines.position(token.start)),
         None => {
             out.begin_part(Part::Between);

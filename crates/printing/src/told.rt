@@ -70,10 +70,11 @@ pub(crate) fn put_operand(out: &mut Message, told: &Told, operand: Operand) {
         Operand::Constant(Constant::Truth(true)) => out.put("true"),
         Operand::Constant(Constant::Truth(false)) => out.put("false"),
         Operand::Local(value) => put_value(out, told.function, value),
-        Operand::Global(symbol)
-        | Operand::CastGlobal {
-            global: symbol, ..
-        } => put_symbol(out, told.module(), symbol),
+        Operand::Global(symbol) | Operand::CastGlobal { global: symbol, .. } => put_symbol(
+            out,
+            told.module(),
+            symbol,
+        ),
     }
 }
 
