@@ -103,15 +103,15 @@ pub(crate) fn facts_at_entry(
     ensures { IfOk result (λ facts. facts ≡ entry_facts_at (seen context.now func) block) }
 {
     let values = context.function.locals.count();
-    if block.number() == 0 {
-        let mut facts = Facts::new(alloc, values, context.slots.count())?;
-        begin_entry(context, func, &mut facts)?;
-        return Ok(facts);
-    }
     let mut facts = Facts::new(alloc, 0, 0)?;
-    let mut spare = SpareRows::none();
-    let claims = claims_of(context, func, block);
-    facts.begin(alloc, &mut spare, values, context.slots, claims)?;
+    if block.number() == 0 {
+        facts.reset(alloc, values, context.slots.count())?;
+        begin_entry(context, func, &mut facts)?;
+    } else {
+        let mut spare = SpareRows::none();
+        let claims = claims_of(context, func, block);
+        facts.begin(alloc, &mut spare, values, context.slots, claims)?;
+    }
     Ok(facts)
 }
 
