@@ -8,6 +8,7 @@ ghost use Rattle.block_rules.specs.Certified.{phi_count, Follows};
 ghost use Rattle.diagnosis.specs.Before as spec;
 ghost use Rattle.diagnosis.specs.Before.{seen};
 
+use crate::changes::CodeAt;
 use block_rules::{RuleContext, TypeKind, advance, given_by, promises_in};
 use certs::{Claim, Promise};
 use facts::{Facts, SpareRows};
@@ -93,6 +94,27 @@ fn begin_entry(context: &RuleContext, func: FuncId, facts: &mut Facts) -> Result
     )
 }
 
+/// What a block begins with, in place of what is known.
+fn begin_block(
+    alloc: Global,
+    spare: &mut SpareRows,
+    context: &RuleContext,
+    func: FuncId,
+    block: BlockId,
+    facts: &mut Facts,
+) -> Result<(), AllocError>
+    ensures { OnOk result (facts.new ≡ entry_facts_at (seen context.now func) block) }
+{
+    let values = context.function.locals.count();
+    if block.number() == 0 {
+        facts.reset(alloc, values, context.slots.count())?;
+        begin_entry(context, func, facts)
+    } else {
+        let claims = claims_of(context, func, block);
+        facts.begin(alloc, spare, values, context.slots, claims)
+    }
+}
+
 /// What a block begins with.
 pub(crate) fn facts_at_entry(
     alloc: Global,
@@ -102,16 +124,9 @@ pub(crate) fn facts_at_entry(
 ) -> Result<Facts, AllocError>
     ensures { IfOk result (λ facts. facts ≡ entry_facts_at (seen context.now func) block) }
 {
-    let values = context.function.locals.count();
     let mut facts = Facts::new(alloc, 0, 0)?;
-    if block.number() == 0 {
-        facts.reset(alloc, values, context.slots.count())?;
-        begin_entry(context, func, &mut facts)?;
-    } else {
-        let mut spare = SpareRows::none();
-        let claims = claims_of(context, func, block);
-        facts.begin(alloc, &mut spare, values, context.slots, claims)?;
-    }
+    let mut spare = SpareRows::none();
+    begin_block(alloc, &mut spare, context, func, block, &mut facts)?;
     Ok(facts)
 }
 
@@ -152,4 +167,18 @@ pub fn facts_before(
     let mut facts = facts_at_entry(alloc, context, func, block)?;
     follow(context, &mut facts, body_before(context, block, place))?;
     Ok(facts)
+}
+
+/// What is known before the instruction at a place of a block, in place of what is known.
+pub(crate) fn lead_to(
+    alloc: Global,
+    spare: &mut SpareRows,
+    context: &RuleContext,
+    at: CodeAt,
+    facts: &mut Facts,
+) -> Result<(), AllocError>
+    ensures { OnOk result (facts.new ≡ spec.facts_before context.now at.func at.block at.place) }
+{
+    begin_block(alloc, spare, context, at.func, at.block, facts)?;
+    follow(context, facts, body_before(context, at.block, at.place))
 }

@@ -74,7 +74,7 @@ pub(crate) fn decided(function: &Function, end: &End, target: BlockId) -> Option
 }
 
 /// Adds what the branch at the end of a block shows on its edge to another one.
-fn learn_branch(
+pub(crate) fn learn_branch(
     facts: &mut Facts,
     function: &Function,
     block: BlockId,
@@ -89,22 +89,6 @@ fn learn_branch(
             facts.learn(test, on)
         }
         None => Ok(()),
-    }
-}
-
-/// What is known on an edge, by what is known at the end of its block.
-pub(crate) fn learned(
-    mut facts: Facts,
-    function: &Function,
-    block: BlockId,
-    target: BlockId,
-) -> Result<Facts, AllocError> {
-    match learn_branch(&mut facts, function, block, target) {
-        Ok(()) => Ok(facts),
-        Err(refused) => {
-            drop(facts);
-            Err(refused)
-        }
     }
 }
 

@@ -1,13 +1,14 @@
 //! A function whose refusals are diagnosed: what is found of it once for all of them.
-use crate::before::facts_before;
+use crate::before::lead_to;
+use crate::changes::CodeAt;
 use crate::diagnosis::{Diagnosis, Draft};
-use crate::edges::learned;
+use crate::edges::learn_branch;
 use crate::entered::predecessors_of;
 use crate::refusals::find;
 use crate::scene::Scene;
 use block_rules::{Refusal, RuleContext};
 use certs::Certs;
-use facts::Facts;
+use facts::{Facts, SpareRows};
 use ir_ast::{FuncId, Function, Module};
 use layout::Program;
 use number_tables::Buckets;
@@ -43,6 +44,9 @@ pub struct UnderDiagnosis<'a> {
     func: FuncId,
     function: &'a Function,
     tables: FunctionTables,
+    /// What is known where the last refusal was, whose rows serve again.
+    facts: Facts,
+    spare: SpareRows,
 }
 
 impl<'a> UnderDiagnosis<'a> {
@@ -64,6 +68,8 @@ impl<'a> UnderDiagnosis<'a> {
             func,
             function,
             tables: FunctionTables::of(alloc, of_module, function)?,
+            facts: Facts::new(alloc, 0, 0)?,
+            spare: SpareRows::none(),
         }))
     }
 
@@ -73,34 +79,32 @@ impl<'a> UnderDiagnosis<'a> {
     }
 
     /// What is wrong with a refused instruction of the function, what is known there, and what mends it.
-    pub fn diagnose(&self, refusal: Refusal) -> Result<Diagnosis, AllocError> {
+    pub fn diagnose(&mut self, refusal: Refusal) -> Result<Diagnosis, AllocError> {
         let context = RuleContext {
             program: self.program,
             certs: self.certs,
             function: self.function,
             slots: &self.tables.slots,
         };
-        let facts = facts_at(self.alloc, &context, &refusal)?;
+        let Refusal { func, block, .. } = refusal;
+        let at = CodeAt {
+            func,
+            block,
+            place: refusal.instr,
+        };
+        lead_to(self.alloc, &mut self.spare, &context, at, &mut self.facts)?;
+        if let Some(detail) = &refusal.detail {
+            learn_branch(&mut self.facts, self.function, block, detail.target)?;
+        }
         let scene = Scene {
             alloc: self.alloc,
             context,
             entered: &self.tables.entered,
-            facts: &facts,
+            facts: &self.facts,
             refusal,
         };
         let mut found = Draft::new(&scene);
         find(&mut found, &scene);
-        let found = found.finish();
-        drop(facts);
-        found
-    }
-}
-
-/// What is known where a refusal is: before the instruction, and on the edge, if it is of one.
-fn facts_at(alloc: Global, context: &RuleContext, refusal: &Refusal) -> Result<Facts, AllocError> {
-    let facts = facts_before(alloc, context, refusal.func, refusal.block, refusal.instr)?;
-    match &refusal.detail {
-        Some(detail) => learned(facts, context.function, refusal.block, detail.target),
-        None => Ok(facts),
+        found.finish()
     }
 }

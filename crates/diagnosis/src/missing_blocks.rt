@@ -2,7 +2,7 @@
 use crate::cases::Mending;
 use crate::definitions::{Definition, blocks_between, is_missing};
 use crate::diagnosis::{Draft, Unlisted};
-use crate::edges::learned;
+use crate::edges::learn_branch;
 use crate::null_tests::shows_nonnull;
 use crate::scene::{Scene, Spot};
 use crate::told::Told;
@@ -42,11 +42,11 @@ fn class_on_edge(
     from: BlockId,
     to: BlockId,
 ) -> Result<Class, AllocError> {
-    let facts = scene.facts_at(&Spot {
+    let mut facts = scene.facts_at(&Spot {
         block: from,
         place: usize::MAX,
     })?;
-    let facts = learned(facts, scene.context.function, from, to)?;
+    learn_branch(&mut facts, scene.context.function, from, to)?;
     let class = match facts.known(value) {
         Known::Cell {
             class,

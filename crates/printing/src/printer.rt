@@ -258,7 +258,7 @@ impl<'a> Printer<'a> {
         if !self.keeps(refusal.func) {
             self.under = UnderDiagnosis::new(alloc, self.program, self.certs, refusal.func)?;
         }
-        let Some(under) = &self.under else {
+        let Some(under) = &mut self.under else {
             return Ok(None);
         };
         let diagnosis = under.diagnose(refusal)?;
