@@ -288,18 +288,6 @@ fn mends_of_edge(missing: &Missing) -> (&'static str, &'static str) {
             "compare {it} with null and branch, before this edge",
             WITHOUT_NONNULL,
         ),
-        Missing::Fresh | Missing::InPhi(_) => (
-            "take `fresh` out of the claim; a reference that is stored into its cell then needs llvm.gcwrite",
-            "",
-        ),
-        Missing::InSlot(_) => (
-            "add `slot {place} holds {it}` under `block {to}`: with `fresh` all that leads to the cell is claimed",
-            WITHOUT_FRESH,
-        ),
-        Missing::Twin(_) => (
-            "add `same {it}` to the claim of {place}: with `fresh` all that leads to the cell is claimed",
-            WITHOUT_FRESH,
-        ),
         Missing::Layout => (
             "claim the layout to which {it} refers, or make it one of the layout that is claimed",
             "",
@@ -315,6 +303,25 @@ fn mends_of_edge(missing: &Missing) -> (&'static str, &'static str) {
         Missing::Holds => (
             "store it into {it} before this edge",
             "or take `holds` out of the claim, where nothing in {to} needs it",
+        ),
+        missing => mends_of_holders(missing),
+    }
+}
+
+/// What mends a claim that is not shown since something else leads to the cell, or for no reason that has words.
+fn mends_of_holders(missing: &Missing) -> (&'static str, &'static str) {
+    match missing {
+        Missing::Fresh | Missing::InPhi(_) => (
+            "take `fresh` out of the claim; a reference that is stored into its cell then needs llvm.gcwrite",
+            "",
+        ),
+        Missing::InSlot(_) => (
+            "add `slot {place} holds {it}` under `block {to}`: with `fresh` all that leads to the cell is claimed",
+            WITHOUT_FRESH,
+        ),
+        Missing::Twin(_) => (
+            "add `same {it}` to the claim of {place}: with `fresh` all that leads to the cell is claimed",
+            WITHOUT_FRESH,
         ),
         _ => ("claim what is known, or take the claim out", ""),
     }
@@ -383,6 +390,13 @@ fn of_rule(rule: Rule) -> Page {
             "{it} is a slot outside the entry block",
             "write the alloca in the entry block: there is one slot for all turns of a loop",
         ),
+        rule => of_function(rule),
+    }
+}
+
+/// A rule on a function or on what it calls.
+fn of_function(rule: Rule) -> Page {
+    match rule {
         Rule::K12 => mended(
             "{function} has references, and no `gc \"shadow-stack\"`",
             "write `gc \"shadow-stack\"` after the parameters of {function}",

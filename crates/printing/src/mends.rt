@@ -98,8 +98,10 @@ fn put_of_case(out: &mut Message, told: &Told, diagnosis: &Diagnosis) {
     }
 }
 
+/// How a function of the runtime, or of numbers, is declared, after these words.
 fn put_declared(out: &mut Message, told: &Told, words: &str, runtime: &Runtime) {
     out.put(words);
+    out.put("and call it with these types: ");
     put_declare_of(out, runtime, Pointers::of_module(told.module()));
     out.put("\n")
 }
@@ -254,17 +256,8 @@ fn put_mend(out: &mut Message, told: &Told, diagnosis: &Diagnosis, mending: &Men
         Mending::NameNull | Mending::NameObject | Mending::ChangeRound => {
             put_barrier(out, told, mending)
         }
-        Mending::Declare(runtime) => {
-            put_declared(
-                out,
-                told,
-                "declare it so, and call it with these types: ",
-                runtime,
-            )
-        }
-        Mending::CallTypes(runtime) => {
-            put_declared(out, told, "and call it with these types: ", runtime)
-        }
+        Mending::Declare(runtime) => put_declared(out, told, "declare it so, ", runtime),
+        Mending::CallTypes(runtime) => put_declared(out, told, "", runtime),
         Mending::List(value, fact) => {
             put_groups(out, told, *value, fact, diagnosis.unlisted.as_slice())
         }
