@@ -13,7 +13,7 @@ use crate::ways::is_block;
 use block_rules::Detail;
 use certs::{Claim, Fact};
 use facts::{Facts, SlotFact};
-use ir_ast::{BlockId, End, Function, Incoming, Operand, Phi, ValueId};
+use ir_ast::{BlockId, End, Function, Incoming, Operand, ValueId};
 use std::alloc::AllocError;
 
 /// What comes in from a block.
@@ -30,27 +30,18 @@ pub(crate) fn operand_from(
     None
 }
 
-/// The place of the phi that gives a value.
-fn phi_place(phis: &[Phi], value: ValueId) -> Option<usize> {
-    for (place, phi) in phis.iter().enumerate() {
-        if phi.value == value {
-            return Some(place);
-        }
-    }
-    None
-}
-
 /// The phi of a block that gives a value.
 fn phi_of(function: &Function, block: BlockId, value: ValueId) -> Option<Spot> {
-    let place = phi_place(block_at(function, block)?.phis.as_slice(), value)?;
+    let phis = block_at(function, block)?.phis.as_slice();
+    let place = phis.iter().position(|phi| phi.value == value)?;
     Some(Spot { block, place })
 }
 
 /// What is claimed of, as it is named before the edge: of a phi what comes in.
 pub(crate) fn before_edge(scene: &Scene, target: BlockId, value: ValueId) -> Option<Operand> {
     let function = scene.context.function;
-    let block = block_at(function, target)?;
-    let phi = block.phis.get(phi_place(block.phis.as_slice(), value)?)?;
+    let phis = block_at(function, target)?.phis.as_slice();
+    let phi = phis.iter().find(|phi| phi.value == value)?;
     operand_from(function, phi.incoming.as_slice(), scene.refusal.block)
 }
 

@@ -1,10 +1,11 @@
 //! K4: a base that may be null, where it came in, and what would show that it is not.
-use crate::cases::{Case, Mending, Seen};
+use crate::cases::{Case, Loaded, Mending, Seen};
 use crate::definitions::{Definition, defining, definition_of, spot_of};
 use crate::diagnosis::Draft;
 use crate::scene::{Scene, Spot, instr_in};
 use crate::told::{Told, local, value_in};
-use ir_ast::{Instr, MemoryOp, Op, Operand, ValueId};
+use crate::ways::same_under_other_name;
+use ir_ast::{MemoryOp, Op, Operand, ValueId};
 
 /// Over how many instructions a place is followed back at most.
 const STEPS: usize = 64;
@@ -13,9 +14,7 @@ const STEPS: usize = 64;
 pub(crate) fn is_made_here(scene: &Scene, value: ValueId) -> bool {
     let block = scene.refusal.block;
     match spot_of(scene, value) {
-        Some(spot) => {
-            spot.block.number() == block.number() && spot.place >= scene.phis_of(block)
-        }
+        Some(spot) => spot.block == block && spot.place >= scene.phis_of(block),
         None => false,
     }
 }
@@ -34,15 +33,6 @@ pub(crate) fn find_place(found: &mut Draft, told: &Told) {
     found.case_under(told, Case::NullablePlace, told.holes.place)
 }
 
-/// Of which value an instruction gives a place in its cell, or another name.
-fn led_from(instr: &Instr) -> Option<ValueId> {
-    match &instr.op {
-        Op::Element(element) => local(element.base),
-        Op::Cast(cast) => local(cast.operand),
-        _ => None,
-    }
-}
-
 /// A value, and the instruction that makes it.
 #[derive(Clone, Copy)]
 struct Made {
@@ -55,7 +45,7 @@ fn made_of(scene: &Scene, base: ValueId, place: ValueId) -> Option<Made> {
     let mut value = place;
     for _step in 0..STEPS {
         let spot = spot_of(scene, value)?;
-        let from = led_from(instr_in(scene.context.function, &spot)?)?;
+        let from = same_under_other_name(instr_in(scene.context.function, &spot)?)?;
         if from.number() == base.number() {
             return Some(Made { value, spot });
         }
@@ -75,14 +65,26 @@ pub(crate) fn note_base(found: &mut Draft, told: &Told) {
     }
 }
 
-/// The slot from which a value is loaded.
-pub(crate) fn slot_loaded(scene: &Scene, value: ValueId) -> Option<Operand> {
+/// The load from a slot that gives a value, if one does, and the slot.
+pub(crate) fn load_of(scene: &Scene, value: ValueId) -> Option<(Loaded, Operand)> {
     let instr = defining(scene.context.function, value)?;
-    let Op::Memory(MemoryOp::Load { place, .. }) = &instr.op else {
+    let Op::Memory(
+        MemoryOp::Load {
+            loaded,
+            place_type,
+            place,
+        },
+    ) = &instr.op
+    else {
         return None;
     };
     scene.context.slots.slot_of(local(*place)?)?;
-    Some(*place)
+    let load = Loaded {
+        value,
+        loaded: *loaded,
+        place_type: *place_type,
+    };
+    Some((load, *place))
 }
 
 /// What may be listed of the slot from which the value is loaded.
@@ -101,8 +103,8 @@ fn mend_slot(found: &mut Draft, told: &Told, value: ValueId) {
 
 /// What a block may list in place of that.
 fn mend_listed(found: &mut Draft, told: &Told, value: ValueId) {
-    match slot_loaded(told.scene, value) {
-        Some(slot) => mend_slot(found, &told.with_place(Some(slot)), value),
+    match load_of(told.scene, value) {
+        Some((_, slot)) => mend_slot(found, &told.with_place(Some(slot)), value),
         None if is_made_here(told.scene, value) => {}
         None => found.mend(told, Mending::ListNonnull),
     }

@@ -1,14 +1,14 @@
 //! A value that is defined on one way to its use, and not on another: where it is used, and how it is loaded again there.
-use crate::cases::{Loaded, Mending, Seen};
-use crate::definitions::{blocks_between, defining};
+use crate::cases::{Mending, Seen};
+use crate::definitions::blocks_between;
 use crate::diagnosis::Draft;
 use crate::entered::labels_of;
-use crate::nulls::is_value;
+use crate::nulls::{is_value, load_of};
 use crate::operands::operands_of;
 use crate::scene::{Scene, Spot, There, block_at};
-use crate::told::{Told, local, value_in};
+use crate::told::{Told, value_in};
 use crate::unknown::note_definition;
-use ir_ast::{Block, BlockId, Instr, MemoryOp, Op, Operand, ValueId};
+use ir_ast::{Block, BlockId, Instr, ValueId};
 use std::alloc::AllocError;
 use types::target_of;
 
@@ -84,28 +84,6 @@ fn first_use(scene: &Scene, from: BlockId, value: ValueId) -> Result<Option<Spot
         }
     }
     Ok(None)
-}
-
-/// The load from a slot that gives a value, if one does, and the slot.
-fn load_of(scene: &Scene, value: ValueId) -> Option<(Loaded, Operand)> {
-    let instr = defining(scene.context.function, value)?;
-    let Op::Memory(
-        MemoryOp::Load {
-            loaded,
-            place_type,
-            place,
-        },
-    ) = &instr.op
-    else {
-        return None;
-    };
-    scene.context.slots.slot_of(local(*place)?)?;
-    let load = Loaded {
-        value,
-        loaded: *loaded,
-        place_type: *place_type,
-    };
-    Some((load, *place))
 }
 
 /// Whether a way leads from the block that defines the value to another one.

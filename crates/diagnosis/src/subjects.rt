@@ -1,28 +1,22 @@
 //! Which operand a refusal speaks of.
 use crate::operands::{null_base_among, slot_among, stale_among, unavailable};
-use crate::scene::{Scene, There};
+use crate::scene::Scene;
+use crate::told::{call_of, op_of};
 use block_rules::Rule;
 use ir_ast::{Argument, MemoryOp, Op, Operand, Runtime};
 use types::runtime_called;
 
 /// The place of a load or a store.
 pub(crate) fn place_of(scene: &Scene) -> Option<Operand> {
-    let There::Body(instr) = scene.there() else {
-        return None;
-    };
-    match &instr.op {
-        Op::Memory(MemoryOp::Load { place, .. }) => Some(*place),
-        Op::Memory(MemoryOp::Store { place, .. }) => Some(*place),
+    match op_of(scene)? {
+        Op::Memory(MemoryOp::Load { place, .. } | MemoryOp::Store { place, .. }) => Some(*place),
         _ => None,
     }
 }
 
 /// The value that is stored.
 fn stored(scene: &Scene) -> Option<Operand> {
-    let There::Body(instr) = scene.there() else {
-        return None;
-    };
-    match &instr.op {
+    match op_of(scene)? {
         Op::Memory(MemoryOp::Store { value, .. }) => Some(*value),
         _ => None,
     }
@@ -30,12 +24,9 @@ fn stored(scene: &Scene) -> Option<Operand> {
 
 /// The arguments of a call.
 pub(crate) fn arguments_of<'a>(scene: &Scene<'a>) -> &'a [Argument] {
-    match scene.there() {
-        There::Body(instr) => match &instr.op {
-            Op::Call(call) => call.arguments.as_slice(),
-            _ => &[],
-        },
-        _ => &[],
+    match call_of(scene) {
+        Some(call) => call.arguments.as_slice(),
+        None => &[],
     }
 }
 
@@ -49,10 +40,7 @@ fn object_named(scene: &Scene) -> Option<Operand> {
 
 /// The operand of a cast, or the base of a getelementptr.
 fn led(scene: &Scene) -> Option<Operand> {
-    let There::Body(instr) = scene.there() else {
-        return None;
-    };
-    match &instr.op {
+    match op_of(scene)? {
         Op::Cast(cast) => Some(cast.operand),
         Op::Element(element) => Some(element.base),
         _ => None,
@@ -76,15 +64,12 @@ fn index_of(operands: &[Operand]) -> Option<Operand> {
 
 /// Whether the refused instruction is a call of a function of the runtime. A function of integers or of floating point numbers is none.
 pub(crate) fn is_runtime_call(scene: &Scene) -> bool {
-    match scene.there() {
-        There::Body(instr) => match &instr.op {
-            Op::Call(call) => match runtime_called(scene.context.module(), call.callee) {
-                None | Some(Runtime::Integer { .. } | Runtime::Float { .. }) => false,
-                Some(_) => true,
-            },
-            _ => false,
-        },
-        _ => false,
+    match call_of(scene) {
+        Some(call) => !matches!(
+            runtime_called(scene.context.module(), call.callee),
+            None | Some(Runtime::Integer { .. } | Runtime::Float { .. })
+        ),
+        None => false,
     }
 }
 

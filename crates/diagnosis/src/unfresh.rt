@@ -3,7 +3,7 @@ use crate::cases::Seen;
 use crate::changes::{Change, CodeAt, last_change};
 use crate::definitions::spot_of;
 use crate::diagnosis::Draft;
-use crate::nulls::slot_loaded;
+use crate::nulls::load_of;
 use crate::scene::{Scene, Spot};
 use crate::stale::class_of;
 use crate::told::{Told, value_in};
@@ -119,8 +119,8 @@ fn unfresh_in_slot(
 
 /// The call up to which the slot held a fresh cell from which a reference is loaded.
 fn unfresh_before_load(scene: &Scene, value: ValueId) -> Result<Option<Unfresh>, AllocError> {
-    match (spot_of(scene, value), value_in(slot_loaded(scene, value))) {
-        (Some(spot), Some(slot)) => unfresh_in_slot(scene, &spot, slot),
+    match (spot_of(scene, value), load_of(scene, value)) {
+        (Some(spot), Some((_, Operand::Local(slot)))) => unfresh_in_slot(scene, &spot, slot),
         _ => Ok(None),
     }
 }

@@ -8,6 +8,7 @@ use crate::one_way::find_one_way_here;
 use crate::scene::{Scene, Spot, instr_in};
 use crate::stale::{find_lost, lost_before};
 use crate::told::{Told, value_in};
+use block_rules::Refusal;
 use certs::{Claim, Fact};
 use ir_ast::{BlockId, Op, ValueId};
 use std::alloc::AllocError;
@@ -31,21 +32,13 @@ fn unknown_from(scene: &Scene, definition: &Definition) -> Cause {
 
 /// Whether an instruction of the refused one's block comes after it.
 fn is_below(scene: &Scene, definition: &Definition) -> bool {
-    match definition {
-        Definition::At(spot) => {
-            spot.block.number() == scene.refusal.block.number() && spot.place >= scene.refusal.instr
-        }
-        _ => false,
-    }
-}
-
-fn may_be_stale(fact: &Fact) -> bool {
-    matches!(fact, Fact::Reference { .. } | Fact::Address { .. })
+    let Refusal { block, instr, .. } = scene.refusal;
+    matches!(definition, Definition::At(spot) if spot.block == block && spot.place >= instr)
 }
 
 /// The cause of a value that is known where it is defined.
 fn lost_on_the_way(scene: &Scene, value: ValueId, fact: Fact) -> Result<Cause, AllocError> {
-    if !may_be_stale(&fact) {
+    if !matches!(fact, Fact::Reference { .. } | Fact::Address { .. }) {
         return Ok(Cause::Unlisted);
     }
     let spot = scene.spot();

@@ -57,7 +57,7 @@ fn may_reach_safepoint(scene: &Scene, instr: &Instr) -> bool {
 }
 
 /// Of which other value an instruction gives the same reference, or a place in its cell.
-fn same_under_other_name(instr: &Instr) -> Option<ValueId> {
+pub(crate) fn same_under_other_name(instr: &Instr) -> Option<ValueId> {
     match &instr.op {
         Op::Cast(cast) => local(cast.operand),
         Op::Element(element) => local(element.base),
