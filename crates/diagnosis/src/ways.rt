@@ -5,7 +5,8 @@ use crate::scene::{Scene, Spot, block_at, defined_as};
 use crate::told::local;
 use certs::Mark;
 use ir_ast::{Block, BlockId, Function, Incoming, Instr, Op, Phi, Runtime, ValueId};
-use std::alloc::AllocError;
+use number_tables::{put, row_or};
+use std::alloc::{AllocError, Global};
 use types::{runtime_called, target_of};
 
 /// How many blocks are gone over at most.
@@ -95,24 +96,66 @@ fn phi_of(phis: &[Phi], value: ValueId) -> Option<&Phi> {
     phis.iter().find(|phi| phi.value == value)
 }
 
-fn add(ways: &mut Vec<Way>, block: BlockId, value: ValueId) -> Result<(), AllocError> {
-    let way = Way {
-        block,
-        value,
-        upto: usize::MAX,
-    };
-    // No way beyond these is gone over.
-    if ways.len() >= FAR || ways.contains(&way) {
-        return Ok(());
+/// Places up to which ways lead, each once, in the order in which they were found.
+#[derive(Drop)]
+struct Ways {
+    ways: Vec<Way>,
+    /// For each block one more than the number of the last of its ways, or 0.
+    last: Vec<usize>,
+    /// For each way one more than the number of the one of its block before it, or 0.
+    earlier: Vec<usize>,
+}
+
+impl Ways {
+    fn new(alloc: Global, function: &Function) -> Result<Ways, AllocError> {
+        Ok(Ways {
+            ways: Vec::new(alloc),
+            last: vec![in alloc; 0usize; function.blocks.len()]?,
+            earlier: Vec::new(alloc),
+        })
     }
-    ways.push(way)?;
-    Ok(())
+
+    fn has(&self, way: &Way) -> bool {
+        let mut next = row_or(&self.last, way.block.number() as usize, 0);
+        for _step in 0..self.ways.len() {
+            let Some(number) = next.checked_sub(1) else {
+                return false;
+            };
+            if self.ways.get(number) == Some(way) {
+                return true;
+            }
+            next = row_or(&self.earlier, number, 0);
+        }
+        false
+    }
+
+    fn push(&mut self, way: Way) -> Result<(), AllocError> {
+        let block = way.block.number() as usize;
+        self.earlier.push(row_or(&self.last, block, 0))?;
+        self.ways.push(way)?;
+        put(&mut self.last, block, self.ways.len());
+        Ok(())
+    }
+
+    /// A block before which the value is followed, if it was not found before.
+    fn add(&mut self, block: BlockId, value: ValueId) -> Result<(), AllocError> {
+        let way = Way {
+            block,
+            value,
+            upto: usize::MAX,
+        };
+        // No way beyond these is gone over.
+        if self.ways.len() >= FAR || self.has(&way) {
+            return Ok(());
+        }
+        self.push(way)
+    }
 }
 
 /// The ways over which the entries of a phi come in.
 fn add_entries(
     function: &Function,
-    ways: &mut Vec<Way>,
+    ways: &mut Ways,
     incoming: &[Incoming],
 ) -> Result<(), AllocError> {
     for entry in incoming {
@@ -120,23 +163,23 @@ fn add_entries(
             local(entry.operand),
             target_of(function, entry.from),
         ) {
-            add(ways, block, value)?;
+            ways.add(block, value)?;
         }
     }
     Ok(())
 }
 
 /// The ways over which a block is entered from these blocks.
-fn add_predecessors(ways: &mut Vec<Way>, blocks: &[u32], value: ValueId) -> Result<(), AllocError> {
+fn add_predecessors(ways: &mut Ways, blocks: &[u32], value: ValueId) -> Result<(), AllocError> {
     for number in blocks {
-        add(ways, BlockId::new(*number), value)?;
+        ways.add(BlockId::new(*number), value)?;
     }
     Ok(())
 }
 
 fn add_ways(
     scene: &Scene,
-    ways: &mut Vec<Way>,
+    ways: &mut Ways,
     block: BlockId,
     phis: &[Phi],
     value: ValueId,
@@ -197,7 +240,7 @@ fn found_at(scene: &Scene, spot: &Spot, value: ValueId) -> Result<Found, AllocEr
 }
 
 /// Goes on from one place back to the blocks before.
-fn go_on(scene: &Scene, ways: &mut Vec<Way>, way: &Way, block: &Block) -> Result<(), AllocError> {
+fn go_on(scene: &Scene, ways: &mut Ways, way: &Way, block: &Block) -> Result<(), AllocError> {
     match name_before(block.body.as_slice(), way) {
         Some(value) => add_ways(scene, ways, way.block, block.phis.as_slice(), value),
         None => Ok(()),
@@ -216,7 +259,7 @@ fn found_in(scene: &Scene, way: &Way, block: &Block) -> Result<Found, AllocError
 }
 
 /// Goes on from one place back, if the value does not become stale in its block.
-fn go_back(scene: &Scene, ways: &mut Vec<Way>, way: &Way) -> Result<Found, AllocError> {
+fn go_back(scene: &Scene, ways: &mut Ways, way: &Way) -> Result<Found, AllocError> {
     let Some(block) = block_at(scene.context.function, way.block) else {
         return Ok(Found::Nothing);
     };
@@ -234,7 +277,7 @@ pub(crate) fn safepoint_before(
     spot: &Spot,
     value: ValueId,
 ) -> Result<Option<Lost>, AllocError> {
-    let mut ways = Vec::new(scene.alloc);
+    let mut ways = Ways::new(scene.alloc, scene.context.function)?;
     ways.push(Way {
         block: spot.block,
         value,
@@ -242,7 +285,7 @@ pub(crate) fn safepoint_before(
     })?;
     let mut nearest = None;
     for turn in 0..FAR {
-        let Some(way) = ways.get(turn).copied() else {
+        let Some(way) = ways.ways.get(turn).copied() else {
             return Ok(nearest);
         };
         match go_back(scene, &mut ways, &way)? {
