@@ -39,7 +39,7 @@ fn find_in_scene(
     Ok(true)
 }
 
-/// The same of a flow in this function.
+/// Finds of a flow in this function that its value is stale. Returns whether it is.
 fn find_in_function(
     found: &mut Draft,
     scene: &Scene,
@@ -75,7 +75,7 @@ fn find_in_function(
     is_stale
 }
 
-/// The same of each of some flows, up to the first that is stale.
+/// Finds the first of some flows whose value is stale. Returns whether there is one.
 fn find_first(
     found: &mut Draft,
     scene: &Scene,

@@ -19,7 +19,7 @@ pub enum Cause {
     OneWay(BlockId),
     /// A block on the way does not list it.
     Unlisted,
-    /// The same, and it would be stale.
+    /// A block on the way does not list it, and it would be stale.
     Stale,
 }
 
@@ -71,7 +71,7 @@ pub enum Beyond {
 pub enum Missing {
     /// Nothing is known of the value.
     All,
-    /// The same, since this block defines it, and the edge is reached without that.
+    /// Nothing is known of the value, since this block defines it, and the edge is reached without that.
     OneWay(BlockId),
     /// The phi that gives the value has no entry for the block.
     Entry,
@@ -88,9 +88,9 @@ pub enum Missing {
     InPhi(ValueId),
     Layout,
     Below,
-    /// Of a slot, that what it holds is not null.
+    /// What a slot holds may be null.
     SlotNonnull,
-    /// Of a slot, what it holds.
+    /// A slot is not known to hold that.
     Holds,
     Other,
 }
@@ -169,7 +169,7 @@ pub enum Case {
     Unbarred(Target),
     /// The object of a barrier is not that of the place, which is in the cell of another one.
     OtherObject,
-    /// The same, and the place is in no cell.
+    /// The object of a barrier is not that of the place, which is in no cell.
     NoObject,
     Unrooted(Held),
     Argument(Unkept),

@@ -308,7 +308,7 @@ fn number_of_layout(scene: &Scene) -> Option<Operand> {
     }
 }
 
-/// Of which operand a refusal by K2 speaks, and what is wrong with its type.
+/// The operand that a refusal by K2 speaks of, and what is wrong with its type.
 fn wrong_in(scene: &Scene, operands: &[Operand], place: Option<Operand>) -> Wrong {
     if let Some(handed) = handed_outside(scene, operands) {
         return Wrong::of(Mistyped::Handed, handed);

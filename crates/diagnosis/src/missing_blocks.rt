@@ -11,7 +11,7 @@ use facts::{Class, Known};
 use ir_ast::{BlockId, ValueId};
 use std::alloc::AllocError;
 
-/// Of how many blocks it is found at most which edges into them show.
+/// How many blocks there are at most of which it is found what edges into them show.
 const SHOWN: usize = 64;
 
 /// How many edges into these blocks there are at most.
@@ -101,7 +101,7 @@ fn is_fresh_at(scene: &Scene, value: ValueId, to: BlockId) -> Result<bool, Alloc
     Ok(true)
 }
 
-/// Those of some blocks at which a value is not null, if all of them may list it as such.
+/// The blocks among some at which a value is not null, if all of them may list it as such.
 fn still_nonnull(
     scene: &Scene,
     value: ValueId,
@@ -116,7 +116,7 @@ fn still_nonnull(
     Ok(kept)
 }
 
-/// Those of some blocks that may list a value as one that is not null.
+/// The blocks among some that may list a value as one that is not null.
 fn nonnull_among(
     scene: &Scene,
     value: ValueId,
@@ -191,7 +191,7 @@ fn are_shown(scene: &Scene, blocks: &[BlockId]) -> bool {
     blocks.len() <= SHOWN && are_entered_by_few(scene, blocks)
 }
 
-/// The same, where nothing is said of edges.
+/// The blocks, where nothing is said of edges.
 fn not_shown(scene: &Scene, blocks: &[BlockId]) -> Result<Vec<Unlisted>, AllocError> {
     let mut found = Vec::new(scene.alloc);
     for block in blocks {

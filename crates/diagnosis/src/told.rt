@@ -67,7 +67,7 @@ impl<'a> Told<'a> {
         Told { scene, holes }
     }
 
-    /// The same with other holes.
+    /// Sentences with other holes.
     pub(crate) fn with(&self, holes: Holes) -> Told<'a> {
         Told { holes, ..*self }
     }

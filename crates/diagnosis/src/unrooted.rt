@@ -66,7 +66,7 @@ fn layout_stored(
     }
 }
 
-/// The same of the first such instruction of a block.
+/// The layout of what a block first stores into a slot, if that is known.
 fn layout_in(
     scene: &Scene,
     id: BlockId,

@@ -57,7 +57,7 @@ fn may_reach_safepoint(scene: &Scene, instr: &Instr) -> bool {
     }
 }
 
-/// Of which other value an instruction gives the same reference, or a place in its cell.
+/// The other value of which an instruction gives the same reference, or a place in its cell.
 pub(crate) fn same_under_other_name(instr: &Instr) -> Option<ValueId> {
     match &instr.op {
         Op::Cast(cast) => local(cast.operand),

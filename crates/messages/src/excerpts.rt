@@ -207,7 +207,7 @@ pub fn put_token_line(out: &mut Message, pen: Pen, ink: Ink, text: &[u8], token:
     put_line_of_token(out, pen, ink, text, token, position)
 }
 
-/// The same of a token at this position.
+/// The line of a token at this position, and a caret under it.
 pub fn put_line_of_token(
     out: &mut Message,
     pen: Pen,

@@ -12,7 +12,7 @@ pub struct LineStarts {
 }
 
 impl LineStarts {
-    /// Those of a text.
+    /// Finds where the lines of a text begin.
     pub fn of(alloc: Global, text: &[u8]) -> Result<LineStarts, AllocError> {
         let mut starts = Vec::new(alloc);
         starts.push(0usize)?;

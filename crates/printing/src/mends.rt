@@ -149,7 +149,7 @@ fn put_slot_type(out: &mut Message, told: &Told, slot: Operand) {
     out.put("*\n")
 }
 
-/// The line of the shapes that says to which layout a slot refers begins so.
+/// How the line of the shapes begins that says to which layout a slot refers.
 fn put_shape_words(out: &mut Message, told: &Told) {
     let text =
         "and this one to the shapes, in front of the certificate's sections: root {function} ";
@@ -157,7 +157,7 @@ fn put_shape_words(out: &mut Message, told: &Told) {
     put_text(out, told, text)
 }
 
-/// It ends so.
+/// How that line ends.
 fn put_shape_layout(out: &mut Message, told: &Told, layout: Option<LayoutId>) {
     out.put(" ref ");
     match layout {

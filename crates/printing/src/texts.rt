@@ -58,7 +58,7 @@ pub(crate) struct Texts<'a> {
     pub(crate) certs: &'a Certs,
     /// Where the instructions of the refused function are.
     pub(crate) places: &'a FunctionPlaces,
-    /// The same of another function.
+    /// Where the instructions of another function are, of which something is seen.
     pub(crate) others: &'a FunctionPlaces,
 }
 
