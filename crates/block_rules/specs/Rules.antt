@@ -66,7 +66,7 @@ is_entry f written v _ = false
 -- by the operand
 abbrev pub may_come_in : Module → Function → SlotTable → (written : ℕ) → Operand → Bool
 may_come_in m f slots written (Written c) = constant_fits c (kind_of m written)
-may_come_in m f slots written (Local v) = is_entry f written v (slice_get f.sorts v) && not (is_some (slot_of slots v)) && not (is_opaque_address m slots written (Local v))
+may_come_in m f slots written (Local v) = is_entry f written v (slice_get f.sorts v) && not (is_some (slot_of slots v)) && (m.wide || not (is_opaque_address m slots written (Local v)))
 may_come_in m f slots written operand = is_outside_operand m operand && is_pointer (kind_of m written)
 
 -- each entry of a phi

@@ -1,6 +1,7 @@
 -- Calls of functions outside that are trusted.
 use Rattle.std.proofs.Common.{◌≡◌, ℕ, Bool, List, [], ◌∷◌, length, refl, sym, ◌∙◌, subst, arith, true, false, Option, Some, None, slice_get, inl, inr}
-use Rattle.std.specs.Prelude.{◌==◌, ◌&&◌, ◌||◌}
+use Rattle.std.proofs.lemmas.Bool.Decides.{nat_tests}
+use Rattle.std.specs.Prelude.{◌≤◌, ◌==◌, ◌&&◌, ◌||◌, nat_le, take, drop}
 use Rattle.std.specs.List.{list_all, list_any, zip}
 use Rattle.lemmas.specs.Numbers.{test_true}
 use Rattle.lemmas.specs.Bools.{and_parts, and_true, or_first, or_second, or_parts}
@@ -14,10 +15,11 @@ use Rattle.certs.specs.declared.section.Section.{Section}
 use Rattle.fact_tables.specs.declared.known.Known.TheVariants.{Nothing}
 use Rattle.facts.specs.Facts.{FactSet}
 use Rattle.block_rules.specs.declared.instr_context.InstrContext.{InstrContext}
-use Rattle.block_rules.specs.declared.rule.Rule.TheVariants.{K1, K2, K10}
+use Rattle.block_rules.specs.declared.rule.Rule.TheVariants.{K1, K2, K10, K18}
 use Rattle.type_kinds.specs.declared.type_kind.TypeKind.{TypeKind}
 use Rattle.type_kinds.specs.declared.type_kind.TypeKind.TheVariants.{NoValue, Bits, Reference, AnyReference, Address, Other}
-use Rattle.block_rules.specs.Calls.{all_available, no_slots, is_foreign_argument, is_written_at, is_written_to, foreign_conditions, after_foreign_call}
+use Rattle.block_rules.specs.Calls as c
+use Rattle.block_rules.specs.Calls.{all_available, no_slots, all_outside, within, past, is_foreign_argument, is_written_at, is_written_to, foreign_conditions, after_foreign_call}
 use Rattle.block_rules.specs.FirstFailing.{first_failing}
 use Rattle.block_rules.specs.Operands as o
 use Rattle.block_rules.specs.Signature.{is_foreign}
@@ -71,20 +73,28 @@ module _ (heap : Setup) (p : LaidOut) (certs : List Section) (reaches : Bool) (f
         ])
       ]
 
-  -- so is each, written with the type of its parameter
-  all_taken : (types : List ℕ) (arguments : List Argument) → length arguments ≡ length types → list_all is_written_at (zip arguments types) ≡ true → all_available table facts arguments ≡ true
-      → list_all (is_foreign_argument p.of_module f table facts) arguments ≡ true → no_slots table arguments ≡ true → a.are_outside_arguments p.of_module f table frame.registers types arguments ≡ true
-  all_taken [] [] same written k1 k2 k10 = refl
-  all_taken [] (argument ∷ arguments) same written k1 k2 k10 = absurd (omega (arith, same))
-  all_taken (type ∷ types) [] same written k1 k2 k10 = absurd (omega (arith, same))
-  all_taken (type ∷ types) (argument ∷ arguments) same written k1 k2 k10 =
+  -- past the parameters each is an address outside
+  past_taken : (arguments : List Argument) → all_outside p.of_module f table facts arguments ≡ true → a.are_outside_arguments p.of_module f table frame.registers [] arguments ≡ true
+  past_taken [] e = refl
+  past_taken (argument ∷ arguments) e =
+      let b = and_parts (o.is_outside_value p.of_module f table facts argument.written argument.operand) (all_outside p.of_module f table facts arguments) e in
+      and_true (k.is_usable_outside p.of_module f table frame.registers argument.written argument.operand) (a.are_outside_arguments p.of_module f table frame.registers [] arguments)
+      (usable_outside heap p f table guarded log cells facts frame.registers frame.slots h argument.written argument.operand (outside_is heap p f table guarded log cells facts frame.registers frame.slots h argument.written argument.operand b.0)) (past_taken arguments b.1)
+
+  -- in the place of a parameter each is taken, written with its type
+  all_taken : (types : List ℕ) (arguments : List Argument) → length types ≤ length arguments → list_all is_written_at (zip arguments types) ≡ true → all_available table facts arguments ≡ true
+      → list_all (is_foreign_argument p.of_module f table facts) (take (length types) arguments) ≡ true → no_slots table arguments ≡ true → all_outside p.of_module f table facts (drop (length types) arguments) ≡ true
+      → a.are_outside_arguments p.of_module f table frame.registers types arguments ≡ true
+  all_taken [] arguments enough written k1 k2 k10 k18 = past_taken arguments k18
+  all_taken (type ∷ types) [] enough written k1 k2 k10 k18 = absurd (omega (arith, enough))
+  all_taken (type ∷ types) (argument ∷ arguments) enough written k1 k2 k10 k18 =
       let w = and_parts (argument.written == type) (list_all is_written_at (zip arguments types)) written in
       let a1 = and_parts (o.is_available table facts argument.operand) (all_available table facts arguments) k1 in
-      let a2 = and_parts (is_foreign_argument p.of_module f table facts argument) (list_all (is_foreign_argument p.of_module f table facts) arguments) k2 in
+      let a2 = and_parts (is_foreign_argument p.of_module f table facts argument) (list_all (is_foreign_argument p.of_module f table facts) (take (length types) arguments)) k2 in
       let a10 = and_parts (o.is_no_slot table argument.operand) (no_slots table arguments) k10 in
       and_true (argument.written == type) _ w.0
       (and_true (k.is_usable_number p.of_module f table frame.registers argument.written argument.operand || a.is_address_argument p.of_module f table frame.registers argument) (a.are_outside_arguments p.of_module f table frame.registers types arguments)
-      (argument_taken argument a1.0 a2.0 a10.0) (all_taken types arguments (omega (arith, same)) w.1 a1.1 a2.1 a10.1))
+      (argument_taken argument a1.0 a2.0 a10.0) (all_taken types arguments (omega (arith, enough)) w.1 a1.1 a2.1 a10.1 k18))
 
   -- a function without a result gives nothing
   asks_nothing : is_void (kind_of p.of_module returned) ≡ true → a.asked_outside (slice_get p.of_module.types returned) ≡ Local
@@ -114,12 +124,16 @@ module _ (heap : Setup) (p : LaidOut) (certs : List Section) (reaches : Bool) (f
       let all = rules_hold (foreign_conditions m f table here facts returned arguments (Some d)) e in
       let is_trusted = list_any (λ s. s == d.symbol) m.trusted.functions in
       let gives = is_void (kind_of m d.returned) || (is_integer (kind_of m d.returned) || is_pointer (kind_of m d.returned)) in
-      let arity = length arguments == length d.parameters in
+      let arity = nat_le (length d.parameters) (length arguments) in
       let wide = and_parts m.wide (is_trusted && (gives && arity)) trusted in
       let right = and_parts gives arity (and_parts is_trusted (gives && arity) wide.1).1 in
-      let k2 = and_parts (list_all (is_foreign_argument m f table facts) arguments) (is_written_to returned arguments (Some d)) (all K2) in
+      let enough : length d.parameters ≤ length arguments = let e = right.1 in grind (arith, nat_tests, e) in
+      let within_taken = list_all (is_foreign_argument m f table facts) (within (Some d) arguments) in
+      let past_typed = c.all_taken m f table facts None (past (Some d) arguments) in
+      let k2 = and_parts (within_taken && past_typed) (is_written_to returned arguments (Some d)) (all K2) in
+      let within_so = and_parts within_taken past_typed k2.0 in
       let types = and_parts (returned == d.returned) (list_all is_written_at (zip arguments d.parameters)) k2.1 in
-      let taken = all_taken d.parameters arguments (test_true (length arguments) (length d.parameters) right.1) types.1 (all K1) k2.0 (all K10) in
+      let taken = all_taken d.parameters arguments enough types.1 (all K1) within_so.0 (all K10) (all K18) in
       let asked : a.call_action p f table frame.registers returned arguments (Some d) defined None ≡ a.asked_outside (slice_get m.types returned) = rw (wide.0, types.0, taken) refl in
       let datum = is_integer (kind_of m returned) || is_pointer (kind_of m returned) in
       let given : (is_void (kind_of m returned) || datum) ≡ true = subst (λ t. (is_void (kind_of m t) || (is_integer (kind_of m t) || is_pointer (kind_of m t))) ≡ true) (sym (test_true returned d.returned types.0)) right.0 in

@@ -50,18 +50,18 @@ module _ (m : Module) (f : Function) (table : SlotTable) where
   value_typed written v (Some (sort.Block block)) e = absurd cc
 
   -- a name of something outside comes in at a pointer type
-  outside_typed : (written symbol : ℕ) (other : Bool) → (is_outside m symbol && is_pointer (kind_of m written)) ≡ true → (is_outside m symbol && (other || (is_outside m symbol && k.is_pointer_type (slice_get m.types written))) && true) ≡ true
+  outside_typed : (written symbol : ℕ) (other : Bool) → (is_outside m symbol && is_pointer (kind_of m written)) ≡ true → (is_outside m symbol && (other || (is_outside m symbol && k.is_pointer_type (slice_get m.types written))) && (m.wide || true)) ≡ true
   outside_typed written symbol other e =
       let b = and_parts (is_outside m symbol) (is_pointer (kind_of m written)) e in
       let there = and_true (is_outside m symbol) (k.is_pointer_type (slice_get m.types written)) b.0 (sym (pointer_type_same m written) ∙ b.1) in
-      and_true (is_outside m symbol && (other || (is_outside m symbol && k.is_pointer_type (slice_get m.types written)))) true
-      (and_true (is_outside m symbol) (other || (is_outside m symbol && k.is_pointer_type (slice_get m.types written))) b.0 (or_second other _ there)) refl
+      and_true (is_outside m symbol && (other || (is_outside m symbol && k.is_pointer_type (slice_get m.types written)))) (m.wide || true)
+      (and_true (is_outside m symbol) (other || (is_outside m symbol && k.is_pointer_type (slice_get m.types written))) b.0 (or_second other _ there)) (or_second m.wide true refl)
 
   -- an entry that the rules let come in has the written type, and is no address in a cell or of a global
   operand_typed : (written : ℕ) (x : Operand) → may_come_in m f table written x ≡ true → j.entry_fits m f table written (Some x) ≡ true
-  operand_typed written (operand.Constant c) e = rw (constant_passes m written c e) refl
+  operand_typed written (operand.Constant c) e = rw (constant_passes m written c e) (or_second m.wide true refl)
   operand_typed written (operand.Local v) e =
-      let all = and_parts (is_entry f written v (slice_get f.sorts v) && not (is_some (slot_of table v))) (not (is_opaque_address m table written (operand.Local v))) e in
+      let all = and_parts (is_entry f written v (slice_get f.sorts v) && not (is_some (slot_of table v))) (m.wide || not (is_opaque_address m table written (operand.Local v))) e in
       let b = and_parts (is_entry f written v (slice_get f.sorts v)) (not (is_some (slot_of table v))) all.0 in
       rw (value_typed written v (slice_get f.sorts v) b.0, none_of (slot_of table v) b.1, all.1) refl
   operand_typed written (operand.Global g) e = outside_typed written g (points_to_global m written g) e
