@@ -11,7 +11,7 @@ use Rattle.ir_ast.specs.declared.ends.End.{End}
 use Rattle.ir_ast.specs.declared.ends.End.TheVariants as end
 use Rattle.ir_ast.specs.declared.function.Function.{Function}
 use Rattle.ir_ast.specs.declared.function.LocalSort.{LocalSort}
-use Rattle.ir_ast.specs.declared.function.LocalSort.TheVariants.{Value}
+use Rattle.ir_ast.specs.declared.function.LocalSort.TheVariants.{Value, Element}
 use Rattle.ir_ast.specs.declared.instr.Instr.{Instr}
 use Rattle.ir_ast.specs.declared.memory.MemoryOp.{MemoryOp}
 use Rattle.ir_ast.specs.declared.memory.MemoryOp.TheVariants as memory
@@ -24,7 +24,7 @@ use Rattle.ir_ast.specs.declared.operand.Operand.{Operand}
 use Rattle.ir_ast.specs.declared.operand.Operand.TheVariants.{Constant as Written, Local}
 use Rattle.layout.specs.Layouts.{LaidOut}
 use Rattle.outside_names.specs.Operands.{is_outside_operand}
-use Rattle.types.specs.ValueTypes.{target_of}
+use Rattle.types.specs.ValueTypes.{target_of, has_type}
 use Rattle.shadow_stack.specs.Slots.{SlotTable, slot_of, is_opaque_address, is_among}
 use Rattle.certs.specs.declared.section.Section.{Section}
 use Rattle.facts.specs.Facts.{FactSet, end_slot}
@@ -58,15 +58,16 @@ gives_root slots (Some v) = names_root slots (slot_of slots v)
 abbrev pub may_hold : Module → SlotTable → (result : Option ℕ) → (held : ℕ) → Bool
 may_hold m slots result held = is_integer (kind_of m held) || gives_root slots result
 
--- K2: an entry of a phi is a constant of its type, a value to which the text gives that type, or the name of something outside; a slot or an address in a cell is none
-abbrev pub is_entry : Function → (written v : ℕ) → Option LocalSort → Bool
-is_entry f written v (Some (Value given)) = given == written
-is_entry f written v _ = false
+-- K2: an entry of a phi is a constant of its type, a value to which the text gives that type, with the wide forms the name of a getelementptr, or the name of something outside; a slot is none
+abbrev pub is_entry : Module → Function → (written v : ℕ) → Option LocalSort → Bool
+is_entry m f written v (Some (Value given)) = given == written
+is_entry m f written v (Some (Element block place)) = m.wide && has_type m f written v
+is_entry m f written v _ = false
 
 -- by the operand
 abbrev pub may_come_in : Module → Function → SlotTable → (written : ℕ) → Operand → Bool
 may_come_in m f slots written (Written c) = constant_fits c (kind_of m written)
-may_come_in m f slots written (Local v) = is_entry f written v (slice_get f.sorts v) && not (is_some (slot_of slots v)) && not (is_opaque_address m slots written (Local v))
+may_come_in m f slots written (Local v) = is_entry m f written v (slice_get f.sorts v) && not (is_some (slot_of slots v)) && (m.wide || not (is_opaque_address m slots written (Local v)))
 may_come_in m f slots written operand = is_outside_operand m operand && is_pointer (kind_of m written)
 
 -- each entry of a phi

@@ -37,7 +37,6 @@ use Rattle.types.specs.Elements.{element_type}
 use Rattle.types.specs.LayoutNumbers.{layout_meant}
 use Rattle.types.specs.References.{pointee, is_opaque}
 use Rattle.types.specs.RuntimeCall.{runtime_called}
-use Rattle.outside_names.specs.Operands.{is_outside_operand}
 use Rattle.types.specs.ValueTypes.{target_of}
 use Rattle.shadow_stack.specs.Slots.{SlotTable, operand_slot, held_type, slot_layout}
 use Rattle.machine.specs.declared.value.Pointee.{Pointee}
@@ -46,7 +45,7 @@ use Rattle.machine.specs.declared.value.Value.{Value}
 use Rattle.machine.specs.declared.value.Value.TheVariants as value
 use Rattle.machine.specs.declared.action.Action.{Action}
 use Rattle.machine.specs.declared.action.Action.TheVariants.{Local, Foreign, Read, Write, StorePlain, Alloc, Safepoint, End, Wrong}
-use Rattle.machine.specs.Kinds.{is_integer, is_integer_of, is_void, is_pointer_type, is_null_operand, bits_of, is_byte_pointer, is_place_of_bytes, leads_to, may_refer, may_lead, refers_to, may_cast_word, bits_at, is_set, is_reference, fits_layout_of, are_of_one_layout, number_in, value_of, is_typed, is_usable, is_usable_number, is_usable_outside, is_null_at, is_number, is_local_of, slot_at_place, address_at_place}
+use Rattle.machine.specs.Kinds.{is_integer, is_integer_of, is_void, is_pointer_type, bits_of, is_byte_pointer, is_place_of_bytes, leads_to, may_refer, may_lead, refers_to, may_cast_word, bits_at, is_set, is_reference, fits_layout_of, are_of_one_layout, number_in, value_of, is_typed, is_usable, is_usable_number, is_usable_outside, is_null_at, is_number, is_local_of, slot_at_place, address_at_place}
 use Rattle.machine.specs.Integers.{may_resize, is_equality}
 use Rattle.machine.specs.Elements.{element_offset, element_place, globals_cell, global_kind, is_read_as, takes_value}
 use Rattle.machine.specs.Jumps.{phis_of, phis_fit, switch_edge, cases_fit}
@@ -370,13 +369,15 @@ asked_outside t = if is_void t then Local else asked_given t
 abbrev pub is_address_argument : Module → Function → SlotTable → List Value → Argument → Bool
 is_address_argument m f slots registers argument = is_null_at m argument.written argument.operand || is_usable_outside m f slots registers argument.written argument.operand
 
--- a function outside takes numbers, null and addresses outside, of its parameters' types
+-- a function outside takes numbers, null and addresses outside, of its parameters' types; past its parameters it takes addresses outside, as the dots of a declaration allow
 abbrev pub are_outside_arguments : Module → Function → SlotTable → List Value → List ℕ → List Argument → Bool
 are_outside_arguments m f slots registers [] [] = true
+are_outside_arguments m f slots registers [] (argument ∷ arguments) =
+    is_usable_outside m f slots registers argument.written argument.operand && are_outside_arguments m f slots registers [] arguments
 are_outside_arguments m f slots registers (type ∷ types) (argument ∷ arguments) =
     (argument.written == type) && ((is_usable_number m f slots registers argument.written argument.operand || is_address_argument m f slots registers argument)
     && are_outside_arguments m f slots registers types arguments)
-are_outside_arguments m f slots registers _ _ = false
+are_outside_arguments m f slots registers (type ∷ types) [] = false
 
 -- a call of a declared function of a wide text, with its types; other names are those of defined functions
 abbrev pub outside_action : Module → Function → SlotTable → List Value → (returned : ℕ) → List Argument → Option Declare → (callee : Option Function) → Action
@@ -503,7 +504,7 @@ memory_action p f slots registers (memory.Load loaded place_type place) =
 memory_action p f slots registers (memory.Store stored v place_type place) =
     if is_usable_outside p.of_module f slots registers place_type place then only_if (stores_outside p.of_module f slots registers stored v) Local
     else store_action p slots stored (is_usable p.of_module f slots registers stored v) (value_of p.of_module registers stored v)
-        (slot_at_place p.of_module f slots place_type place) (address_at_place p.of_module f slots registers place_type place)
+    (slot_at_place p.of_module f slots place_type place) (address_at_place p.of_module f slots registers place_type place)
 
 -- a call
 abbrev pub action_of_call : LaidOut → Function → SlotTable → List Value → Call → Action
