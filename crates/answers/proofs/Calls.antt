@@ -1,7 +1,7 @@
 -- What is asked of a call of a function that is known, and what is known after it, does not depend on functions.
 use Rattle.std.specs.List.{list_all}
 use Rattle.std.specs.Prelude.{Bool, List, None, Option, Some, [], false, not, refl, ℕ, ◌&&◌, ◌||◌, ◌∷◌, ◌≡◌}
-use Rattle.block_rules.specs.Calls.{after_alloc_call, after_defined, after_foreign_call, after_integer_call, all_available, all_current, all_passed, all_taken, all_values, alloc_conditions, are_root_arguments, defined_conditions, drop_arguments, foreign_conditions, integer_conditions, is_foreign_argument, is_taken, is_unrooted, is_written_to, is_written_with, may_root, no_slots, number_layouts, numbers_layout, read_call_conditions, receive_result, refused_conditions, root_conditions, safepoint_conditions, takes_address, takes_slot, write_call_conditions}
+use Rattle.block_rules.specs.Calls.{after_alloc_call, after_defined, after_foreign_call, after_integer_call, all_available, all_current, all_outside, all_passed, all_taken, all_values, alloc_conditions, are_root_arguments, defined_conditions, drop_arguments, foreign_conditions, integer_conditions, is_foreign_argument, is_taken, is_unrooted, is_written_to, is_written_with, may_root, no_slots, number_layouts, numbers_layout, past, read_call_conditions, receive_result, refused_conditions, root_conditions, safepoint_conditions, takes_address, takes_slot, within, write_call_conditions}
 use Rattle.block_rules.specs.Integers.{define_number}
 use Rattle.block_rules.specs.Places.{define_given}
 use Rattle.block_rules.specs.Operands.{is_no_opaque_slot, is_null, known_fits, known_of, slot_named}
@@ -109,12 +109,6 @@ pub is_foreign_argument_same : (m : Module) (fs : List Function) → is_foreign_
 is_foreign_argument_same m fs = λ along f slots facts argument. (is_integer (kind_of_same m fs along argument.written) && is_value_same m fs along f slots facts argument.written argument.operand)
     || ((is_null argument.operand && is_pointer (kind_of_same m fs along argument.written)) || is_outside_value_same m fs along f slots facts argument.written argument.operand)
 
-pub foreign_conditions_same : (m : Module) (fs : List Function) → foreign_conditions (with_functions m fs) ≡ foreign_conditions m
-foreign_conditions_same m fs = λ along f slots here facts returned arguments called. (K1, all_available slots facts arguments)
-    ∷ (K2, list_all (is_foreign_argument_same m fs along f slots facts) arguments && is_written_to returned arguments called)
-    ∷ (K10, no_slots slots arguments)
-    ∷ (K12, here.may_move_references) ∷ []
-
 pub is_taken_same : (m : Module) (fs : List Function) → is_taken (with_functions m fs) ≡ is_taken m
 is_taken_same m fs = λ along f slots facts named argument. is_outside_value_same m fs along f slots facts argument.written argument.operand
     || (is_typed_same m fs along f argument.written argument.operand
@@ -122,6 +116,17 @@ is_taken_same m fs = λ along f slots facts named argument. is_outside_value_sam
 
 pub all_taken_same : (m : Module) (fs : List Function) → all_taken (with_functions m fs) ≡ all_taken m
 all_taken_same m fs = λ along f slots facts named arguments. list_all (is_taken_same m fs along f slots facts named) arguments
+
+pub all_outside_same : (m : Module) (fs : List Function) → all_outside (with_functions m fs) ≡ all_outside m
+all_outside_same m fs = λ along f slots facts arguments. list_all (λ argument. is_outside_value_same m fs along f slots facts argument.written argument.operand) arguments
+
+pub foreign_conditions_same : (m : Module) (fs : List Function) → foreign_conditions (with_functions m fs) ≡ foreign_conditions m
+foreign_conditions_same m fs = λ along f slots here facts returned arguments called. (K1, all_available slots facts arguments)
+    ∷ (K2, list_all (is_foreign_argument_same m fs along f slots facts) (within called arguments) && all_taken_same m fs along f slots facts None (past called arguments) && is_written_to returned arguments called)
+    ∷ (K3, all_current facts (past called arguments))
+    ∷ (K10, no_slots slots arguments)
+    ∷ (K12, here.may_move_references)
+    ∷ (K18, all_outside_same m fs along f slots facts (past called arguments)) ∷ []
 
 pub refused_conditions_same : (m : Module) (fs : List Function) → refused_conditions (with_functions m fs) ≡ refused_conditions m
 refused_conditions_same m fs = λ along f slots here facts named arguments. (K1, all_available slots facts arguments)

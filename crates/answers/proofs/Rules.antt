@@ -1,13 +1,13 @@
 -- The conditions of instructions that are no calls, and what is known after them, do not depend on functions.
 use Rattle.std.specs.List.{list_all}
-use Rattle.std.specs.Prelude.{List, None, Option, Some, [], refl, ℕ, ◌&&◌, ◌==◌, ◌||◌, ◌∷◌, ◌≡◌}
+use Rattle.std.specs.Prelude.{List, None, Option, Some, [], false, is_some, not, refl, slice_get, ℕ, ◌&&◌, ◌==◌, ◌||◌, ◌∷◌, ◌≡◌}
 use Rattle.block_rules.specs.Calls.{no_slots}
 use Rattle.block_rules.specs.Elements.{may_be_base}
 use Rattle.block_rules.specs.Floats.{float_conditions, float_kind, is_number_of}
 use Rattle.block_rules.specs.Integers.{after_select, arithmetic_below, below_of, choose_pointer, define_number, known_layout, may_choose, may_compare, may_resize, one_layout, resized_below}
 use Rattle.block_rules.specs.Operands.{constant_fits, is_available, is_based, is_current, is_no_slot, is_null, known_of}
 use Rattle.block_rules.specs.Promises.{keeps_promise, says_what_it_is}
-use Rattle.block_rules.specs.Rules.{after_memory, after_named, after_number, all_come_in, are_cases, cast_conditions, casts_outside, choice_conditions, compares_outside, element_conditions, end_conditions, gives_root, is_case, is_condition, is_datum, loads_outside, may_come_in, may_hold, memory_conditions, names_target, number_conditions, phi_conditions, stores_outside}
+use Rattle.block_rules.specs.Rules.{after_memory, after_named, after_number, all_come_in, are_cases, cast_conditions, casts_outside, choice_conditions, compares_outside, element_conditions, end_conditions, gives_root, is_case, is_condition, is_datum, is_entry, loads_outside, may_come_in, may_hold, memory_conditions, names_target, number_conditions, phi_conditions, stores_outside}
 use Rattle.type_kinds.specs.TypeKinds.{is_bits, is_integer, is_pointer, is_void}
 use Rattle.type_kinds.specs.declared.type_kind.TypeKind.{TypeKind}
 use Rattle.type_kinds.specs.declared.type_kind.TypeKind.TheVariants.{Bits}
@@ -17,6 +17,8 @@ use Rattle.facts.specs.Facts.{FactSet}
 use Rattle.ir_ast.specs.declared.ends.End.{End}
 use Rattle.ir_ast.specs.declared.floats.FloatOp.{FloatOp}
 use Rattle.ir_ast.specs.declared.function.Function.{Function}
+use Rattle.ir_ast.specs.declared.function.LocalSort.{LocalSort}
+use Rattle.ir_ast.specs.declared.function.LocalSort.TheVariants.{Value, Element}
 use Rattle.ir_ast.specs.declared.memory.MemoryOp.{MemoryOp}
 use Rattle.ir_ast.specs.declared.module.Module.{Module}
 use Rattle.ir_ast.specs.declared.numbers.NumberOp.{NumberOp}
@@ -24,11 +26,12 @@ use Rattle.ir_ast.specs.declared.op.Op.{Op}
 use Rattle.ir_ast.specs.declared.operand.Operand.{Operand}
 use Rattle.ir_ast.specs.declared.operand.Operand.TheVariants.{Constant as Written, Local}
 use Rattle.layout.specs.Layouts.{LaidOut}
-use Rattle.shadow_stack.specs.Slots.{SlotTable}
+use Rattle.shadow_stack.specs.Slots.{SlotTable, slot_of, is_opaque_address}
 use Rattle.answers.proofs.Casts.{after_cast_same, casts_operand_same, may_cast_same}
 use Rattle.answers.proofs.Elements.{after_element_same, are_indices_same, may_lead_same}
 use Rattle.answers.proofs.Operands.{is_outside_operand_same, is_outside_value_same, is_passed_same, is_typed_same, is_value_same, kind_of_same, known_in_same, place_known_same}
 use Rattle.answers.proofs.Places.{is_one_layout_same, after_load_same, may_load_same, may_store_same, needs_no_barrier_same}
+use Rattle.answers.proofs.Types.{has_type_same}
 use Rattle.answers.specs.Local.{laid_with, with_functions}
 use Rattle.ir_ast.specs.declared.ends.End.TheVariants as end
 use Rattle.ir_ast.specs.declared.floats.FloatOp.TheVariants as float
@@ -39,9 +42,14 @@ use Rattle.ir_ast.specs.declared.op.Op.TheVariants as op
 pub may_hold_same : (m : Module) (fs : List Function) → may_hold (with_functions m fs) ≡ may_hold m
 may_hold_same m fs = λ along slots result held. is_integer (kind_of_same m fs along held) || gives_root slots result
 
+is_entry_by : (m : Module) (fs : List Function) (f : Function) (written v : ℕ) (sort : Option LocalSort) → is_entry (with_functions m fs) f written v sort ≡ is_entry m f written v sort
+is_entry_by m fs f written v (Some (Value given)) = refl
+is_entry_by m fs f written v (Some (Element block place)) = λ along. m.wide && has_type_same m fs along f written v
+is_entry_by m fs f written v _ = refl
+
 may_come_in_by : (m : Module) (fs : List Function) (f : Function) (slots : SlotTable) (written : ℕ) (operand : Operand) → may_come_in (with_functions m fs) f slots written operand ≡ may_come_in m f slots written operand
 may_come_in_by m fs f slots written (Written c) = λ along. constant_fits c (kind_of_same m fs along written)
-may_come_in_by m fs f slots written (Local v) = refl
+may_come_in_by m fs f slots written (Local v) = λ along. is_entry_by m fs f written v (slice_get f.sorts v) along && not (is_some (slot_of slots v)) && (m.wide || not (is_opaque_address m slots written (Local v)))
 may_come_in_by m fs f slots written operand = λ along. is_outside_operand_same m fs along operand && is_pointer (kind_of_same m fs along written)
 
 pub may_come_in_same : (m : Module) (fs : List Function) → may_come_in (with_functions m fs) ≡ may_come_in m
@@ -189,7 +197,7 @@ end_conditions_by p fs f slots here facts (end.Switch written value otherwise ca
     ∷ (K2, is_value_same p.of_module fs along f slots facts written value && is_integer (kind_of_same p.of_module fs along written) && names_target f otherwise && are_cases_same p.of_module fs along f written cases && is_no_slot slots value)
     ∷ (K12, here.may_move_references) ∷ []
 end_conditions_by p fs f slots here facts end.Unreachable = refl
-end_conditions_by p fs f slots here facts end.ReturnVoid = λ along. (K2, is_void (kind_of_same p.of_module fs along f.returned)) ∷ (K12, here.may_move_references) ∷ []
+end_conditions_by p fs f slots here facts end.ReturnVoid = λ along. (K2, is_void (kind_of_same p.of_module fs along f.returned)) ∷ (K12, here.may_move_references) ∷ (K14, says_what_it_is false here.promised) ∷ []
 end_conditions_by p fs f slots here facts (end.Return argument) = λ along. (K1, is_available slots facts argument.operand)
     ∷ (K2, is_passed_same p.of_module fs along f slots facts argument.written argument.operand && (argument.written == f.returned))
     ∷ (K3, is_current facts (known_of facts argument.operand))

@@ -11,7 +11,7 @@ use Rattle.ir_ast.specs.declared.ends.End.{End}
 use Rattle.ir_ast.specs.declared.ends.End.TheVariants as end
 use Rattle.ir_ast.specs.declared.function.Function.{Function}
 use Rattle.ir_ast.specs.declared.function.LocalSort.{LocalSort}
-use Rattle.ir_ast.specs.declared.function.LocalSort.TheVariants.{Value, Element as ElementOf}
+use Rattle.ir_ast.specs.declared.function.LocalSort.TheVariants.{Value, Element as ElementName}
 use Rattle.ir_ast.specs.declared.instr.Instr.{Instr}
 use Rattle.ir_ast.specs.declared.memory.MemoryOp.{MemoryOp}
 use Rattle.ir_ast.specs.declared.memory.MemoryOp.TheVariants as memory
@@ -61,7 +61,7 @@ may_hold m slots result held = is_integer (kind_of m held) || gives_root slots r
 -- K2: an entry of a phi is a constant of its type, a value to which the text gives that type, with the wide forms the name of a getelementptr, or the name of something outside; a slot is none
 abbrev pub is_entry : Module → Function → (written v : ℕ) → Option LocalSort → Bool
 is_entry m f written v (Some (Value given)) = given == written
-is_entry m f written v (Some (ElementOf block place)) = m.wide && has_type m f written v
+is_entry m f written v (Some (ElementName block place)) = m.wide && has_type m f written v
 is_entry m f written v _ = false
 
 -- by the operand
