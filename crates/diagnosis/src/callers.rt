@@ -80,12 +80,12 @@ fn find_first(
     found: &mut Draft,
     scene: &Scene,
     flows: &[Flow],
-    seen: Seen,
+    seen: &Seen,
 ) -> Result<bool, AllocError> {
     let functions = scene.context.module().functions.as_slice();
     for flow in flows {
         if let Some(function) = functions.get(flow.func.number() as usize) {
-            if find_in_function(found, scene, function, *flow, seen)? {
+            if find_in_function(found, scene, function, *flow, *seen)? {
                 return Ok(true);
             }
         }
@@ -162,7 +162,7 @@ pub(crate) fn find_stale_caller(
         return Ok(false);
     };
     let flows = passed_by_calls(scene, number)?;
-    let is_stale = find_first(found, scene, flows.as_slice(), Seen::Passed);
+    let is_stale = find_first(found, scene, flows.as_slice(), &Seen::Passed);
     drop(flows);
     is_stale
 }
@@ -212,7 +212,7 @@ pub(crate) fn find_stale_return(
         return Ok(false);
     };
     let flows = returned_by(scene, func, function)?;
-    let is_stale = find_first(found, scene, flows.as_slice(), Seen::Returned);
+    let is_stale = find_first(found, scene, flows.as_slice(), &Seen::Returned);
     drop(flows);
     is_stale
 }

@@ -281,10 +281,10 @@ fn address_used(scene: &Scene, operands: &[Operand]) -> Option<Operand> {
 }
 
 /// What is wrong with the value that llvm.gcwrite stores.
-fn wrong_stored(scene: &Scene, value: Operand) -> Wrong {
-    match address_used(scene, [value].as_slice()) {
+fn wrong_stored(scene: &Scene, value: &Operand) -> Wrong {
+    match address_used(scene, [*value].as_slice()) {
         Some(operand) => Wrong::of(Mistyped::Address, operand),
-        None => Wrong::of(Mistyped::Stored, value),
+        None => Wrong::of(Mistyped::Stored, *value),
     }
 }
 
@@ -326,7 +326,7 @@ fn wrong_in(scene: &Scene, operands: &[Operand], place: Option<Operand>) -> Wron
         return Wrong::of(Mistyped::Slot, slot);
     }
     if let Some(value) = stored_by_barrier(scene) {
-        return wrong_stored(scene, value);
+        return wrong_stored(scene, &value);
     }
     match place {
         Some(place) => Wrong::of(Mistyped::Place, place),

@@ -88,12 +88,13 @@ pub(crate) fn is_global(operand: Operand) -> bool {
 
 /// Whether an operand is the address of a global, or of a word.
 pub(crate) fn is_address(scene: &Scene, operand: Operand) -> bool {
-    match local(operand) {
-        Some(value) => matches!(
+    match operand {
+        Operand::Global(_) | Operand::CastGlobal { .. } => true,
+        Operand::Local(value) => matches!(
             scene.facts.known(value),
             Known::Address { .. } | Known::GlobalAddress(_)
         ),
-        None => is_global(operand),
+        Operand::Constant(_) => false,
     }
 }
 
