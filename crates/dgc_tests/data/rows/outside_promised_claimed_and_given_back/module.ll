@@ -1,4 +1,4 @@
-define ptr @f(ptr %p) {
+define ptr @f(ptr %p) gc "shadow-stack" {
 entry:
   br label %next
 next:
