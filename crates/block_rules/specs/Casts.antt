@@ -9,6 +9,7 @@ use Rattle.layout.specs.Globals.{global_word}
 use Rattle.layout.specs.Layouts.{LaidOut}
 use Rattle.pools.specs.declared.word_kind.WordKind.{WordKind}
 use Rattle.pools.specs.declared.word_set.WordSet.{WordSet}
+use Rattle.types.specs.RuntimeCall.{is_outside}
 use Rattle.shadow_stack.specs.Slots.{SlotTable, slot_of}
 use Rattle.fact_tables.specs.declared.known.Known.{Known}
 use Rattle.fact_tables.specs.declared.known.Known.TheVariants.{Nothing, Number, Cell, Null, Address, GlobalAddress}

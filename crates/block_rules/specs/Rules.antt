@@ -1,5 +1,5 @@
 -- The rules: when an instruction is allowed, and what is known after it.
-use Rattle.std.specs.Prelude.{◌≡◌, ℕ, ◌==◌, Bool, false, not, ◌&&◌, ◌||◌, List, [], ◌∷◌, length, slice_get, nat_lt, Option, Some, None, is_some}
+use Rattle.std.specs.Prelude.{ℕ, ◌==◌, Bool, false, not, ◌&&◌, ◌||◌, List, [], ◌∷◌, length, slice_get, nat_lt, Option, Some, None, is_some}
 use Rattle.std.specs.List.{list_all}
 use Rattle.ir_ast.specs.declared.casts.Cast.{Cast}
 use Rattle.ir_ast.specs.declared.choices.Choice.{Choice}
@@ -11,7 +11,7 @@ use Rattle.ir_ast.specs.declared.ends.End.{End}
 use Rattle.ir_ast.specs.declared.ends.End.TheVariants as end
 use Rattle.ir_ast.specs.declared.function.Function.{Function}
 use Rattle.ir_ast.specs.declared.function.LocalSort.{LocalSort}
-use Rattle.ir_ast.specs.declared.function.LocalSort.TheVariants.{Value}
+use Rattle.ir_ast.specs.declared.function.LocalSort.TheVariants.{Value, Element}
 use Rattle.ir_ast.specs.declared.instr.Instr.{Instr}
 use Rattle.ir_ast.specs.declared.memory.MemoryOp.{MemoryOp}
 use Rattle.ir_ast.specs.declared.memory.MemoryOp.TheVariants as memory
@@ -24,14 +24,13 @@ use Rattle.ir_ast.specs.declared.operand.Operand.{Operand}
 use Rattle.ir_ast.specs.declared.operand.Operand.TheVariants.{Constant as Written, Local}
 use Rattle.layout.specs.Layouts.{LaidOut}
 use Rattle.outside_names.specs.Operands.{is_outside_operand}
-use Rattle.types.specs.ValueTypes.{target_of}
+use Rattle.types.specs.ValueTypes.{target_of, has_type}
 use Rattle.shadow_stack.specs.Slots.{SlotTable, slot_of, is_opaque_address, is_among}
 use Rattle.certs.specs.declared.section.Section.{Section}
 use Rattle.facts.specs.Facts.{FactSet, end_slot}
 use Rattle.block_rules.specs.declared.rule.Rule.{Rule}
 use Rattle.block_rules.specs.declared.rule.Rule.TheVariants.{K1, K2, K3, K4, K5, K6, K8, K10, K11, K12, K14, K19}
 use Rattle.block_rules.specs.declared.instr_context.InstrContext.{InstrContext}
-use Rattle.block_rules.specs.FirstFailing.{first_failing}
 use Rattle.block_rules.specs.Operands.{slot_named, known_of, is_available, constant_fits, is_typed, is_value, is_passed, is_outside_value, is_current, is_null, place_known, is_based, is_no_slot}
 use Rattle.block_rules.specs.Places.{may_load, may_store, is_one_layout, after_load, after_store}
 use Rattle.block_rules.specs.Signature.{callee_of}
@@ -59,16 +58,17 @@ gives_root slots (Some v) = names_root slots (slot_of slots v)
 abbrev pub may_hold : Module → SlotTable → (result : Option ℕ) → (held : ℕ) → Bool
 may_hold m slots result held = is_integer (kind_of m held) || gives_root slots result
 
--- K2: an entry of a phi is a constant of its type, a value to which the text gives that type, or the name of something outside; a slot or an address in a cell is none
-abbrev pub is_entry : Function → (written v : ℕ) → Option LocalSort → Bool
-is_entry f written v (Some (Value given)) = given == written
-is_entry f written v _ = false
+-- K2: an entry of a phi is a constant of its type, a value to which the text gives that type, with the wide forms the name of a getelementptr, or the name of something outside; a slot is none
+abbrev pub is_entry : Module → Function → (written v : ℕ) → Option LocalSort → Bool
+is_entry m f written v (Some (Value given)) = given == written
+is_entry m f written v (Some (Element block place)) = m.wide && has_type m f written v
+is_entry m f written v _ = false
 
 -- by the operand
 abbrev pub may_come_in : Module → Function → SlotTable → (written : ℕ) → Operand → Bool
 may_come_in m f slots written (Written c) = constant_fits c (kind_of m written)
-may_come_in m f slots written (Local v) = is_entry f written v (slice_get f.sorts v) && not (is_some (slot_of slots v)) && not (is_opaque_address m slots written (Local v))
-may_come_in m f slots written operand = is_outside_operand m operand
+may_come_in m f slots written (Local v) = is_entry m f written v (slice_get f.sorts v) && not (is_some (slot_of slots v)) && (m.wide || not (is_opaque_address m slots written (Local v)))
+may_come_in m f slots written operand = is_outside_operand m operand && is_pointer (kind_of m written)
 
 -- each entry of a phi
 abbrev pub all_come_in : Module → Function → SlotTable → (written : ℕ) → List Incoming → Bool
@@ -172,7 +172,7 @@ element_conditions p f slots here facts x =
           && are_indices p.of_module f slots facts x.indices && no_slots slots x.indices,
     )
     ∷ (K3, is_current facts (known_of facts x.base))
-    ∷ (K5, is_outside_value p.of_module f slots facts x.base_type x.base || may_lead p facts x.source x.indices (known_of facts x.base))
+    ∷ (K5, may_lead p facts x.source x.indices (known_of facts x.base) || is_outside_value p.of_module f slots facts x.base_type x.base)
     ∷ (K10, is_no_slot slots x.base)
     ∷ (K12, here.may_move_references)
     ∷ (K19, casts_operand p.of_module x.base) ∷ []
@@ -235,7 +235,7 @@ end_conditions p f slots here facts (end.Switch written value otherwise cases) =
     ∷ (K12, here.may_move_references) ∷ []
 end_conditions p f slots here facts end.Unreachable = (K12, here.may_move_references) ∷ []
 end_conditions p f slots here facts end.ReturnVoid =
-    (K2, is_void (kind_of p.of_module f.returned)) ∷ (K12, here.may_move_references) ∷ []
+    (K2, is_void (kind_of p.of_module f.returned)) ∷ (K12, here.may_move_references) ∷ (K14, says_what_it_is false here.promised) ∷ []
 end_conditions p f slots here facts (end.Return argument) =
     (K1, is_available slots facts argument.operand)
     ∷ (K2, is_passed p.of_module f slots facts argument.written argument.operand && (argument.written == f.returned))

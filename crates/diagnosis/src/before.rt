@@ -1,6 +1,5 @@
 //! What is known before an instruction.
 ghost use Rattle.std.specs.Prelude.{◌≡◌, IfOk, OnOk, length, take, ◌-◌};
-ghost use Rattle.shadow_stack.specs.Slots.{slots_of};
 ghost use Rattle.facts.specs.Facts.{FactSet as AFactSet};
 ghost use Rattle.facts.specs.Claims.{receive_all};
 ghost use Rattle.block_rules.specs.Edges.{parameters_given, entry_facts_at};
@@ -9,6 +8,7 @@ ghost use Rattle.block_rules.specs.Certified.{phi_count, Follows};
 ghost use Rattle.diagnosis.specs.Before as spec;
 ghost use Rattle.diagnosis.specs.Before.{seen};
 
+use crate::changes::CodeAt;
 use block_rules::{RuleContext, TypeKind, advance, given_by, promises_in};
 use certs::{Claim, Promise};
 use facts::{Facts, SpareRows};
@@ -16,7 +16,7 @@ use ir_ast::{BlockId, FuncId, Function, Instr, Module, Parameter};
 use std::alloc::{AllocError, Global};
 
 /// The claims of a block in the certificate.
-fn claims_of<'a>(context: &RuleContext<'a>, func: FuncId, block: BlockId) -> &'a [Claim]
+pub(crate) fn claims_of<'a>(context: &RuleContext<'a>, func: FuncId, block: BlockId) -> &'a [Claim]
     ensures { result.now ≡ spec.claims_of context.now func block }
 {
     match context.certs.section(func) {
@@ -94,8 +94,29 @@ fn begin_entry(context: &RuleContext, func: FuncId, facts: &mut Facts) -> Result
     )
 }
 
+/// What a block begins with, in place of what is known.
+fn begin_block(
+    alloc: Global,
+    spare: &mut SpareRows,
+    context: &RuleContext,
+    func: FuncId,
+    block: BlockId,
+    facts: &mut Facts,
+) -> Result<(), AllocError>
+    ensures { OnOk result (facts.new ≡ entry_facts_at (seen context.now func) block) }
+{
+    let values = context.function.locals.count();
+    if block.number() == 0 {
+        facts.reset(alloc, values, context.slots.count())?;
+        begin_entry(context, func, facts)
+    } else {
+        let claims = claims_of(context, func, block);
+        facts.begin(alloc, spare, values, context.slots, claims)
+    }
+}
+
 /// What a block begins with.
-pub fn facts_at_entry(
+pub(crate) fn facts_at_entry(
     alloc: Global,
     context: &RuleContext,
     func: FuncId,
@@ -103,15 +124,9 @@ pub fn facts_at_entry(
 ) -> Result<Facts, AllocError>
     ensures { IfOk result (λ facts. facts ≡ entry_facts_at (seen context.now func) block) }
 {
-    let values = context.function.locals.count();
-    let mut facts = Facts::new(alloc, values, context.slots.count())?;
-    if block.number() == 0 {
-        begin_entry(context, func, &mut facts)?;
-    } else {
-        let mut spare = SpareRows::none();
-        let claims = claims_of(context, func, block);
-        facts.begin(alloc, &mut spare, values, context.slots, claims)?;
-    }
+    let mut facts = Facts::new(alloc, 0, 0)?;
+    let mut spare = SpareRows::none();
+    begin_block(alloc, &mut spare, context, func, block, &mut facts)?;
     Ok(facts)
 }
 
@@ -126,7 +141,11 @@ fn follow(context: &RuleContext, facts: &mut Facts, body: &[Instr]) -> Result<()
 }
 
 /// The instructions of the body of a block before this place of the block.
-pub fn body_before<'a>(context: &RuleContext<'a>, block: BlockId, place: usize) -> &'a [Instr]
+pub(crate) fn body_before<'a>(
+    context: &RuleContext<'a>,
+    block: BlockId,
+    place: usize,
+) -> &'a [Instr]
     ensures { result.now ≡ spec.body_before context.now block place }
 {
     let phis = phi_count(context.function, block);
@@ -141,7 +160,6 @@ pub fn facts_before(
     block: BlockId,
     place: usize,
 ) -> Result<Facts, AllocError>
-    requires { context.now.slots.now ≡ slots_of context.now.program.now.of_module context.now.function.now }
     ensures value { IfOk result (λ facts. facts ≡ spec.facts_before context.now func block place) }
     // Where the rules hold up to there, this is what the check found.
     ensures as_checked { (last : AFactSet) → let s = seen context.now func in Follows s block (phi_count s block) (entry_facts_at s block) (spec.body_before context.now block place) last → IfOk result (λ facts. facts ≡ last) }
@@ -149,4 +167,18 @@ pub fn facts_before(
     let mut facts = facts_at_entry(alloc, context, func, block)?;
     follow(context, &mut facts, body_before(context, block, place))?;
     Ok(facts)
+}
+
+/// What is known before the instruction at a place of a block, in place of what is known.
+pub(crate) fn lead_to(
+    alloc: Global,
+    spare: &mut SpareRows,
+    context: &RuleContext,
+    at: CodeAt,
+    facts: &mut Facts,
+) -> Result<(), AllocError>
+    ensures { OnOk result (facts.new ≡ spec.facts_before context.now at.func at.block at.place) }
+{
+    begin_block(alloc, spare, context, at.func, at.block, facts)?;
+    follow(context, facts, body_before(context, at.block, at.place))
 }

@@ -1,5 +1,5 @@
 //! Explains each edit of a session that is refused, and the last verdict.
-use crate::explained::put_in_program;
+use crate::explained::put_each;
 use certificate::{CertFault, print_cert};
 use explain::Code;
 use fault_codes::{cert_code, edit_code};
@@ -179,5 +179,12 @@ pub(crate) fn put_last(pen: Pen, out: &mut Message, session: &Session) {
             text: cert_text.as_slice(),
         },
     };
-    put_in_program(pen, out, texts, program, session.certs(), refusal)
+    put_each(
+        pen,
+        out,
+        texts,
+        program,
+        session.certs(),
+        [refusal].as_slice(),
+    )
 }

@@ -4,7 +4,7 @@ ghost use Rattle.reports.specs.Said.{GivesText};
 
 use crate::collector::{Collected, Collector};
 use crate::edited::{put_last, put_refused_edit};
-use crate::explained::{named, put_each, put_in_program, put_unread};
+use crate::explained::{named, put_each, put_unread};
 use crate::made::put_tried;
 use block_rules::Refusal;
 use certs::Certs;
@@ -206,13 +206,13 @@ impl<'a> Findings for Explainer<'a> {
         let texts = texts_of(self.topic, self.files);
         if let (Topic::Recheck, Some(refusal)) = (self.topic, session.verdict()) {
             self.begins_refused = true;
-            put_in_program(
+            put_each(
                 self.pen,
                 &mut self.out,
                 texts,
                 session.program(),
                 session.certs(),
-                refusal,
+                [refusal].as_slice(),
             )
         }
     }

@@ -1,15 +1,14 @@
 //! Refusals and faults as findings: what is told of them, and where they are.
-use crate::explained::{put_unread, texts_of_each};
+use crate::explained::put_unread;
 use answer_objects::{FileTexts, Finding, finding_of};
 use block_rules::{Detail, Refusal};
 use certs::Certs;
-use explanations::{FunctionPlaces, Texts, put_refusal};
 use fault_texts::CheckedTexts;
 use ir_ast::{BlockId, Function, Module};
-use ir_tokens::{TEXT_LIMIT, read_tokens};
 use layout::Program;
 use messages::{Look, Message, Pen};
 use name_text::Blank;
+use printing::{Printer, ReadText};
 use reports::{Unread, line_of_refusal};
 use std::alloc::{AllocError, Global};
 
@@ -111,18 +110,14 @@ pub(crate) fn told_in(
 /// A refusal with what is told of it, and with changes of these files.
 fn told(
     alloc: Global,
-    each: Texts,
+    printer: &mut Printer<'_>,
     files: FileTexts,
     program: &Program,
     certs: &Certs,
     refusal: &Refusal,
 ) -> Result<Finding, AllocError> {
-    let pen = Pen {
-        alloc,
-        look: Look::Plain,
-    };
     let mut message = Message::in_parts(alloc);
-    put_refusal(pen, &mut message, each, program, certs, *refusal);
+    printer.put_refusal(&mut message, *refusal);
     let mut finding = told_in(alloc, refusal.rule.name(), message, files)?;
     add_place(alloc, &mut finding, program.module(), certs, refusal)?;
     Ok(finding)
@@ -138,19 +133,19 @@ pub(crate) fn refusals_in(
     refusals: &[Refusal],
 ) -> Result<Vec<Finding>, AllocError> {
     let mut found = Vec::new(alloc);
-    if texts.of_module.text.len() > TEXT_LIMIT {
+    let Some(read) = ReadText::of(alloc, texts.of_module)? else {
         return Ok(found);
-    }
-    let lexed = read_tokens(alloc, texts.of_module.text)?;
-    let each = texts_of_each(texts, lexed.tokens.as_slice());
-    let mut places = FunctionPlaces::none();
+    };
+    let pen = Pen {
+        alloc,
+        look: Look::Plain,
+    };
+    let mut printer = Printer::new(pen, &read, texts.of_certs, program, certs);
     for refusal in refusals {
-        places.renew(alloc, &each.source, program.module(), refusal.func)?;
-        let each = each.with_places(&places);
-        found.push(told(alloc, each, files, program, certs, refusal)?)?;
+        found.push(told(alloc, &mut printer, files, program, certs, refusal)?)?;
     }
-    drop(places);
-    drop(lexed);
+    drop(printer);
+    drop(read);
     Ok(found)
 }
 

@@ -25,6 +25,8 @@ pub struct Evidence {
     pub wanted: Vec<(u32, LayoutId)>,
     /// Values that are addresses outside of the module, wherever they go.
     pub outside: Vec<u32>,
+    /// Bases of a getelementptr that names no struct.
+    pub bare: Vec<u32>,
     /// Each value with one that it may become.
     pub flows: Vec<(usize, u32)>,
     /// Each base of a getelementptr with its value: where that is an address outside, so is this.
@@ -42,6 +44,7 @@ impl Evidence {
             given: Vec::new(alloc),
             wanted: Vec::new(alloc),
             outside: Vec::new(alloc),
+            bare: Vec::new(alloc),
             flows: Vec::new(alloc),
             elements: Vec::new(alloc),
             bases: Vec::new(alloc),
@@ -65,6 +68,12 @@ impl Evidence {
     /// A value is an address outside, wherever it goes.
     pub fn add_outside(&mut self, value: u32) -> Result<(), AllocError> {
         self.outside.push(value)?;
+        Ok(())
+    }
+
+    /// A getelementptr that names no struct has this base.
+    pub fn add_bare(&mut self, base: u32) -> Result<(), AllocError> {
+        self.bare.push(base)?;
         Ok(())
     }
 

@@ -338,9 +338,20 @@ impl<'a> Reading<'a> {
         }
         let (from, to) = (self.number(*base), self.number(value));
         self.evidence.add_element(from, to)?;
+        self.bare(from, element.source)?;
         self.want_struct(*base, element.source)?;
         self.place_element(element, value);
         Ok(())
+    }
+
+    /// A getelementptr of this base and type. Where the wide forms may stand and it names no struct, the base may be an address outside.
+    fn bare(&mut self, base: u32, source: TypeId) -> Result<(), AllocError> {
+        let module = self.module_read();
+        if module.wide && layout_of_struct(module, source).is_none() {
+            self.evidence.add_bare(base)
+        } else {
+            Ok(())
+        }
     }
 
     /// An element of a struct asks the layout of the struct of its base, unless that leads elsewhere.

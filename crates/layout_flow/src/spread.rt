@@ -173,16 +173,33 @@ impl Spread {
         for value in evidence.outside.as_slice() {
             self.join(*value, Found::Outside)?;
         }
-        for at in 0..usize::MAX {
-            let Some(value) = self.queue.get(at).copied() else {
-                break;
-            };
-            self.pass_forward(ways, value)?;
-        }
-        self.queue.clear();
+        self.flow_on(ways)?;
         self.ask(ways, evidence)?;
         self.pass_all(ways)?;
+        self.lead_out(ways, evidence)?;
         self.guess(ways, evidence)
+    }
+
+    /// What is found of the values that wait flows on.
+    fn flow_on(&mut self, ways: &Ways<'_>) -> Result<(), AllocError> {
+        for _ in 0..usize::MAX {
+            let Some(value) = self.queue.get(self.passed).copied() else {
+                break;
+            };
+            self.passed = self.passed.saturating_add(1);
+            self.pass_forward(ways, value)?;
+        }
+        Ok(())
+    }
+
+    /// What is left, and is the base of a getelementptr that names no struct, is taken to be an address outside.
+    fn lead_out(&mut self, ways: &Ways<'_>, evidence: &Evidence) -> Result<(), AllocError> {
+        for base in evidence.bare.as_slice() {
+            if let Found::Nothing = self.found_of(*base) {
+                self.join(*base, Found::Outside)?;
+            }
+        }
+        self.flow_on(ways)
     }
 
     /// Passes on what the values are taken to be that wait.

@@ -369,13 +369,15 @@ asked_outside t = if is_void t then Local else asked_given t
 abbrev pub is_address_argument : Module → Function → SlotTable → List Value → Argument → Bool
 is_address_argument m f slots registers argument = is_null_at m argument.written argument.operand || is_usable_outside m f slots registers argument.written argument.operand
 
--- a function outside takes numbers, null and addresses outside, of its parameters' types
+-- a function outside takes numbers, null and addresses outside, of its parameters' types; past its parameters it takes addresses outside, as the dots of a declaration allow
 abbrev pub are_outside_arguments : Module → Function → SlotTable → List Value → List ℕ → List Argument → Bool
 are_outside_arguments m f slots registers [] [] = true
+are_outside_arguments m f slots registers [] (argument ∷ arguments) =
+    is_usable_outside m f slots registers argument.written argument.operand && are_outside_arguments m f slots registers [] arguments
 are_outside_arguments m f slots registers (type ∷ types) (argument ∷ arguments) =
     (argument.written == type) && ((is_usable_number m f slots registers argument.written argument.operand || is_address_argument m f slots registers argument)
     && are_outside_arguments m f slots registers types arguments)
-are_outside_arguments m f slots registers _ _ = false
+are_outside_arguments m f slots registers (type ∷ types) [] = false
 
 -- a call of a declared function of a wide text, with its types; other names are those of defined functions
 abbrev pub outside_action : Module → Function → SlotTable → List Value → (returned : ℕ) → List Argument → Option Declare → (callee : Option Function) → Action

@@ -55,8 +55,7 @@ fn is_taken(context: &FrameContext<'_>, argument: &Argument) -> bool
         || is_address_argument(context, argument)
 }
 
-/// Whether there is one argument for each of these types, written with it, that a function outside takes.
-#[tactic(auto, using(crate::proofs::ForeignArguments::other_count))]
+/// Whether there is one argument for each of these types, written with it, that a function outside takes, and past them only addresses outside.
 pub fn are_outside_arguments(
     context: &FrameContext<'_>,
     types: &[TypeId],
@@ -64,15 +63,20 @@ pub fn are_outside_arguments(
 ) -> bool
     ensures { result ≡ are_outside_arguments context.now.program.now.of_module context.now.function.now context.now.slots.now context.now.registers.now types.now arguments.now }
 {
-    if types.len() != arguments.len() {
-        return false;
-    }
-    for (written, argument) in types.iter().zip(arguments.iter()) {
-        if argument.written != *written || !is_taken(context, argument) {
+    let mut rest = types;
+    for argument in arguments {
+        let taken = match rest {
+            [written, others @ ..] => {
+                rest = others;
+                argument.written == *written && is_taken(context, argument)
+            }
+            [] => is_usable_outside(context, argument.written, &argument.operand),
+        };
+        if !taken {
             return false;
         }
     }
-    true
+    rest.is_empty()
 }
 
 /// A number from outside, as it is given.

@@ -13,8 +13,10 @@ use ir_ast::{Element, Module, Operand, TypeId};
 pub fn is_usable_outside(context: &FrameContext<'_>, written: TypeId, operand: &Operand) -> bool
     ensures { result ≡ is_usable_outside context.now.program.now.of_module context.now.function.now context.now.slots.now context.now.registers.now written operand.now }
 {
-    is_pointer_type(context.of_module(), written)
-        && (is_typed(context, written, operand) && is_number(&value_of(context, written, operand)))
+    if !is_number(&value_of(context, written, operand)) {
+        return false;
+    }
+    is_pointer_type(context.of_module(), written) && is_typed(context, written, operand)
 }
 
 /// Whether an operand is null, as it is written at a pointer type.

@@ -203,13 +203,25 @@ fn marked_of(number: usize, line: &[u8], part: Span) -> Marked {
 
 /// The line of a token, and a caret under it. What is said of it may follow, and then the line's end.
 pub fn put_token_line(out: &mut Message, pen: Pen, ink: Ink, text: &[u8], token: Token) {
+    let position = Position::of(text, token.start);
+    put_line_of_token(out, pen, ink, text, token, position)
+}
+
+/// The line of a token at this position, and a caret under it.
+pub fn put_line_of_token(
+    out: &mut Message,
+    pen: Pen,
+    ink: Ink,
+    text: &[u8],
+    token: Token,
+    position: Position,
+) {
     let place = (token.start as usize).min(text.len());
     let line = line_at(text, place);
     let part = Span {
         start: place.saturating_sub(line.start),
         length: token.length as usize,
     };
-    let position = Position::of(text, token.start);
     put_part(out, pen, ink, position.line, line.bytes, part)
 }
 
