@@ -1,5 +1,5 @@
 -- Numbers of layouts that fit a module still fit where its tables have grown.
-use Rattle.std.proofs.Common.{◌≡◌, ℕ, true, ◌&&◌, List, [], ◌∷◌, refl, ap, ◌∙◌}
+use Rattle.std.proofs.Common.{◌&&◌, List, [], ◌∷◌, refl, ◌∙◌}
 use Rattle.std.specs.List.{list_all, list_any}
 use Rattle.ir_ast.specs.declared.module.Module.{Module}
 use Rattle.ir_ast.specs.declared.outside.LayoutNumber.{LayoutNumber}
