@@ -50,13 +50,13 @@ a constant that means a layout: the struct at this place of the text, from 0, or
 where the certificate has lines `number` the layout of its line. An address is
 allowed only as the place of a load, a store, gcread or gcwrite, or as the
 operand of getelementptr or bitcast; with `--forms wide` also as an entry of a
-phi of type `ptr`, of which nothing is known then. A global is the address of
-its word, so its value has to be loaded. With `--forms wide` a pointer may be an
-address outside of the module. Numbers and addresses outside are loaded and
-stored there, and no reference is, null neither. Such an address is compared
-with another one or with null, chosen with another one, passed on and returned,
-and it is the base of a getelementptr. No cell, no global and no slot takes it.
-A function outside takes it, numbers and null, and nothing else.
+phi, of which nothing is known then. A global is the address of its word, so its
+value has to be loaded. With `--forms wide` a pointer may be an address outside
+of the module. Numbers and addresses outside are loaded and stored there, and no
+reference is, null neither. Such an address is compared with another one or with
+null, chosen with another one, passed on and returned, and it is the base of a
+getelementptr. No cell, no global and no slot takes it. A function outside takes
+it, numbers and null, and nothing else.
 
 Why: What the collector follows as a reference has to be one, and a cell's words
 have to be those of its layout. An address is no reference that could be kept:
