@@ -83,9 +83,12 @@ fn rest(arguments: &[Argument], count: usize) -> &[Argument]
 fn all_outside(context: &RuleContext, facts: &Facts, arguments: &[Argument]) -> bool
     ensures { result ≡ all_outside context.now.program.now.of_module context.now.function.now context.now.slots.now facts.now arguments.now }
 {
-    arguments
-        .iter()
-        .all(|argument| is_outside_value(context, facts, argument.written, &argument.operand))
+    arguments.iter().all(|argument| is_outside_value(
+        context,
+        facts,
+        argument.written,
+        &argument.operand,
+    ))
 }
 
 /// Whether an argument is a number of the type that is written, null, or an address outside.

@@ -9,10 +9,7 @@ pub enum Shown {
     /// An integer, and what it is below.
     Number(Option<u64>),
     Null,
-    Cell {
-        layout: LayoutId,
-        nonnull: bool,
-    },
+    Cell { layout: LayoutId, nonnull: bool },
     /// An address outside of the module.
     Outside,
 }
@@ -33,12 +30,7 @@ pub enum InferredPromise {
 
 impl InferredPromise {
     /// The most that can be promised of a value of this family, which leads there; `below` is that of a promise, if it has one.
-    pub fn of(
-        family: Family,
-        nonnull: bool,
-        below: Option<u64>,
-        leads: Leads,
-    ) -> InferredPromise {
+    pub fn of(family: Family, nonnull: bool, below: Option<u64>, leads: Leads) -> InferredPromise {
         match family {
             Family::Number(_) => InferredPromise::Number(below),
             Family::Reference(_) => InferredPromise::Reference { nonnull },
