@@ -1,8 +1,8 @@
-declare i32 @puts(ptr)
-declare ptr @getenv(ptr)
+declare i32 @puts(i8*)
+declare i8* @getenv(i8*)
 define void @f() gc "shadow-stack" {
 entry:
-  %p = call ptr @getenv(ptr null)
-  %r = call i32 @puts(ptr %p)
+  %p = call i8* @getenv(i8* null)
+  %r = call i32 @puts(i8* %p)
   ret void
 }
