@@ -7,14 +7,17 @@ IN.ll is the text after the passes mem2reg, jump-threading and instnamer. A call
 struct NAME. A safepoint comes to the head of each loop and before each call of a function of the program. A reference that
 is used after a safepoint is kept in a root slot: it is stored there where it is made, and loaded from there before each such
 use. An address is computed again after a safepoint. A reference is stored into a cell or a global by gcwrite. A branch on a
-negated test becomes one on the test. Data, globals outside and the functions outside that are called stay as they are: dgc reads
-them with --forms wide.
+negated test becomes one on the test. Data, globals outside and the functions outside that are called stay as they are, and so do
+the pointers that lead there (data.py): dgc reads them with --forms wide.
 
 Says to standard error what each function got. Ends with status 1 and one line where it cannot read IN.ll.
 """
 import argparse
 import re
 import sys
+
+import ir
+from data import Data
 
 RUNTIME = """declare i8* @dg_alloc(i32)
 declare void @dg_safepoint()
@@ -59,6 +62,7 @@ class Function:
                 block.append(plain(line))
         self.entry = next(iter(self.blocks))
         self.count = 0
+        self.data = set()
 
     def calls(self):
         return {found["callee"] for block in self.blocks.values() for line in block for found in re.finditer(CALL, line)}
@@ -88,12 +92,12 @@ class Function:
         return heads
 
     def made(self):
-        """For each local name what it is: a reference of a type, an address with the line that makes it, a slot, or else None."""
-        found = {name: ("reference", kind) for kind, name in self.parameters if REFERENCE.match(kind)}
+        """For each local name what it is: a reference of a type, an address with the line that makes it, or a slot. What leads out of the module is not there."""
+        found = {name: ("reference", kind) for kind, name in self.parameters if REFERENCE.match(kind) and name not in self.data}
         for block in self.blocks.values():
             for line in block:
                 made = re.match(rf"({NAME}) = (.*)", line)
-                if not made:
+                if not made or made[1] in self.data:
                     continue
                 name, rest = made.groups()
                 kind = re.match(r"load ([^,]+),|phi (\S+) \[|select i1 [^,]+, (\S+) |call (\S+) (?:\([^()]*\) )?@", rest)
@@ -291,7 +295,7 @@ class Lowering:
             lines = []
             for line in block:
                 store = re.match(r"store (\S+) (\S+), (\S+) (\S+)$", line)
-                if not store or not REFERENCE.match(store[1]) or made.get(store[4], ("",))[0] == "slot" or store[4] in slots:
+                if not store or not REFERENCE.match(store[1]) or made.get(store[4], ("",))[0] == "slot" or store[4] in slots or store[4] in self.f.data:
                     lines.append(line)
                     continue
                 kind, value, place_kind, place = store.groups()
@@ -384,6 +388,8 @@ def module_of(text, names=None):
     globals_of = [line if DATA.match(line) else plain(line) for line in text.split("\n") if re.match(r"@\S+ = ", line)]
     layouts = [re.match(r"%struct\.(\w+)", line)[1] for line in types]
     functions = functions_of(text)
+    for function, name in data_of(text):
+        functions[function].data.add(name)
     names = list(functions) if names is None else names
     may = {it for it in names if functions[it].loop_heads() or functions[it].calls() & set(functions)}
     for _ in names:
@@ -396,16 +402,25 @@ def module_of(text, names=None):
     return "\n".join(types + globals_of) + "\n" + runtime + declares + "\n".join(bodies) + "\n"
 
 
+def data_of(text):
+    """The local names that lead out of the module, each with its function: none where the text cannot be read as a whole."""
+    try:
+        found = Data(ir.read(text)).values
+    except ir.Fault:
+        return []
+    return [(function.lstrip("@"), name) for function, name in found]
+
+
 def without_copies(text):
     """The text with a declaration in place of each definition that is a copy of a function outside, as of one that a header of C has."""
     return re.sub(r"^define available_externally ([^\n]*) \{\n.*?^\}", r"declare \1", text, flags=re.M | re.S)
 
 
 def outside_of(text):
-    """The lines that declare functions outside of the program which give a number or nothing, and LLVM's functions of numbers, by their names."""
+    """The lines that declare functions outside of the program which give a number, a pointer or nothing, and LLVM's functions of numbers, by their names."""
     outside = {}
     for line in map(plain, re.findall(r"^declare [^\n]*", text, re.M)):
-        found = re.match(r"declare (void|i\d+|float|double) @([\w.$]+)\((.*)\)$", line)
+        found = re.match(r"declare (void|i\d+|float|double|ptr|\S+\*) @([\w.$]+)\((.*)\)$", line)
         if found and not found[2].startswith("new_") and (found[1] != "void" or not found[2].startswith("llvm.")):
             outside[found[2]] = line
     return outside
@@ -429,7 +444,7 @@ def fault(text):
             if called.startswith("new_") and called[4:] not in structs:
                 return f"@{function.name} calls @{called}, and there is no struct {called[4:]}"
             if not called.startswith(("new_", "llvm.")) and called not in outside:
-                return f"@{function.name} calls @{called}, which the program does not define, and which does not give a number or nothing"
+                return f"@{function.name} calls @{called}, which the program does not define, and which does not give a number, a pointer or nothing"
     return None
 
 

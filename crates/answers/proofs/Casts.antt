@@ -7,7 +7,7 @@ use Rattle.type_kinds.specs.WantedWords.{layout_of_word}
 use Rattle.block_rules.specs.Places.{define_held}
 use Rattle.type_kinds.specs.TypeKinds.{fits_layout, is_bits, may_be_reference}
 use Rattle.fact_tables.specs.Rows.{known_at}
-use Rattle.facts.specs.Facts.{FactSet}
+use Rattle.facts.specs.Facts.{FactSet, define}
 use Rattle.fact_tables.specs.declared.known.Known.{Known}
 use Rattle.fact_tables.specs.declared.known.Known.TheVariants.{Address, Cell, GlobalAddress, Nothing, Null, Number}
 use Rattle.ir_ast.specs.declared.function.Function.{Function}
@@ -20,7 +20,7 @@ use Rattle.layout.specs.Globals.{global_word}
 use Rattle.layout.specs.Layouts.{LaidOut}
 use Rattle.pools.specs.declared.word_set.WordSet.{WordSet}
 use Rattle.shadow_stack.specs.Slots.{SlotTable, slot_of}
-use Rattle.answers.proofs.Operands.{kind_of_same, place_kind_same, slot_kind_same}
+use Rattle.answers.proofs.Operands.{is_outside_same, kind_of_same, known_in_same, place_kind_same, slot_kind_same}
 use Rattle.answers.specs.Local.{laid_with, with_functions}
 
 pub casts_null_same : (m : Module) (fs : List Function) → casts_null (with_functions m fs) ≡ casts_null m
@@ -45,7 +45,7 @@ pub casts_global_same : (m : Module) (fs : List Function) → casts_global (with
 casts_global_same m fs = λ along to symbol. casts_to (layout_of_word (global_word m symbol)) (place_kind_same m fs along to)
 
 casts_operand_by : (m : Module) (fs : List Function) (operand : Operand) → casts_operand (with_functions m fs) operand ≡ casts_operand m operand
-casts_operand_by m fs (CastGlobal from symbol to) = λ along. (from == to) || casts_global_same m fs along to symbol
+casts_operand_by m fs (CastGlobal from symbol to) = λ along. (from == to) || casts_global_same m fs along to symbol || is_outside_same m fs along symbol
 casts_operand_by m fs _ = refl
 
 pub casts_operand_same : (m : Module) (fs : List Function) → casts_operand (with_functions m fs) ≡ casts_operand m
@@ -92,7 +92,7 @@ cast_constant_same m fs = λ along v from to constant facts. cast_constant_by m 
 after_cast_by : (m : Module) (fs : List Function) (slots : SlotTable) (v : ℕ) (from : ℕ) (to : ℕ) (operand : Operand) (facts : FactSet) → after_cast (with_functions m fs) slots v from to operand facts ≡ after_cast m slots v from to operand facts
 after_cast_by m fs slots v from to (Written c) facts = λ along. cast_constant_same m fs along v from to c facts
 after_cast_by m fs slots v from to (Local u) facts = refl
-after_cast_by m fs slots v from to operand facts = refl
+after_cast_by m fs slots v from to operand facts = λ along. define v (known_in_same m fs along facts operand) facts
 
 pub after_cast_same : (m : Module) (fs : List Function) → after_cast (with_functions m fs) ≡ after_cast m
 after_cast_same m fs = λ along slots v from to operand facts. after_cast_by m fs slots v from to operand facts along

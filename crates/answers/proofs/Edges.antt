@@ -10,8 +10,11 @@ use Rattle.facts.specs.Claims.{facts_of_parameters, implies_claim}
 use Rattle.ir_ast.specs.declared.function.Function.{Function}
 use Rattle.ir_ast.specs.declared.function.Parameter.{Parameter}
 use Rattle.ir_ast.specs.declared.module.Module.{Module}
+use Rattle.ir_ast.specs.declared.operand.Operand.{Operand}
+use Rattle.ir_ast.specs.declared.operand.Operand.TheVariants.{Constant as Written}
+use Rattle.type_kinds.specs.declared.type_kind.TypeKind.{TypeKind}
 use Rattle.types.specs.ValueTypes.{target_of}
-use Rattle.answers.proofs.Operands.{kind_of_same}
+use Rattle.answers.proofs.Operands.{kind_of_same, known_in_same}
 use Rattle.answers.specs.Local.{context_with, with_functions}
 
 parameters_given_by : (m : Module) (fs : List Function) (parameters : List Parameter) (promises : List (Option Promise)) → parameters_given (with_functions m fs) parameters promises ≡ parameters_given m parameters promises
@@ -31,8 +34,16 @@ claim_facts_same s fs others = refl
 pub entry_facts_at_same : (s : RuleContext) (fs : List Function) (others : List Section) → entry_facts_at (context_with s fs others) ≡ entry_facts_at s
 entry_facts_at_same s fs others = λ along block. elim (block == 0) [ true ↦ entry_facts_same s fs others along | false ↦ claim_facts_same s fs others along block ]
 
+known_comes_in_by : (m : Module) (fs : List Function) (facts : FactSet) (kind : TypeKind) (operand : Option Operand) → known_comes_in (with_functions m fs) facts kind operand ≡ known_comes_in m facts kind operand
+known_comes_in_by m fs facts kind None = refl
+known_comes_in_by m fs facts kind (Some (Written c)) = refl
+known_comes_in_by m fs facts kind (Some operand) = λ along. known_in_same m fs along facts operand
+
+known_comes_in_same : (m : Module) (fs : List Function) → known_comes_in (with_functions m fs) ≡ known_comes_in m
+known_comes_in_same m fs = λ along facts kind operand. known_comes_in_by m fs facts kind operand along
+
 pub phi_comes_in_same : (m : Module) (fs : List Function) → phi_comes_in (with_functions m fs) ≡ phi_comes_in m
-phi_comes_in_same m fs = λ along f from facts phi. record { phi = phi.value; known = known_comes_in facts (kind_of_same m fs along phi.written) (operand_from f from phi.incoming) }
+phi_comes_in_same m fs = λ along f from facts phi. record { phi = phi.value; known = known_comes_in_same m fs along facts (kind_of_same m fs along phi.written) (operand_from f from phi.incoming) }
 
 pub comes_in_same : (m : Module) (fs : List Function) → comes_in (with_functions m fs) ≡ comes_in m
 comes_in_same m fs = λ along f from facts phis. map (phi_comes_in_same m fs along f from facts) phis

@@ -1,13 +1,13 @@
 -- What is asked of a getelementptr, and what is known after it, does not depend on functions.
 use Rattle.std.specs.List.{list_all}
 use Rattle.std.specs.Prelude.{List, None, Option, Some, [], if◌then◌else◌, is_some, length, refl, slice_get, ℕ, ◌&&◌, ◌∷◌, ◌≡◌}
-use Rattle.block_rules.specs.Elements.{after_element, are_indices, array_stride, base_layout, counted_words, define_words, element_part, element_words, is_index, is_zero, leads_from, leads_into, may_lead, part_led, part_reached, start_of, stays_at_first, stays_in, step_part, step_stride, strode, words_after}
+use Rattle.block_rules.specs.Elements.{after_element, are_indices, array_stride, base_layout, counted_words, define_words, element_of_known, element_part, element_words, is_index, is_zero, leads_from, leads_into, may_lead, part_led, part_reached, start_of, stays_at_first, stays_in, step_part, step_stride, strode, words_after}
 use Rattle.block_rules.specs.Operands.{number_of}
 use Rattle.types.specs.Elements.{is_integer}
 use Rattle.fact_tables.specs.Rows.{known_at}
-use Rattle.facts.specs.Facts.{FactSet}
+use Rattle.facts.specs.Facts.{FactSet, define}
 use Rattle.fact_tables.specs.declared.known.Known.{Known}
-use Rattle.fact_tables.specs.declared.known.Known.TheVariants.{GlobalAddress}
+use Rattle.fact_tables.specs.declared.known.Known.TheVariants.{GlobalAddress, Number}
 use Rattle.ir_ast.specs.declared.argument.Argument.{Argument}
 use Rattle.ir_ast.specs.declared.function.Function.{Function}
 use Rattle.ir_ast.specs.declared.ir_type.IrType.{IrType}
@@ -18,7 +18,7 @@ use Rattle.ir_ast.specs.declared.operand.Operand.TheVariants.{Local}
 use Rattle.layout.specs.Layouts.{LaidOut}
 use Rattle.pools.specs.declared.word_set.WordSet.{WordSet}
 use Rattle.answers.proofs.Offsets.{size_of_same, step_of_same}
-use Rattle.answers.proofs.Operands.{is_value_same, kind_of_same}
+use Rattle.answers.proofs.Operands.{is_value_same, kind_of_same, known_in_same}
 use Rattle.answers.proofs.Types.{part_at_same}
 use Rattle.answers.specs.Local.{laid_with, with_functions}
 
@@ -86,10 +86,16 @@ is_index_same m fs = λ along f slots facts index. is_value_same m fs along f sl
 pub are_indices_same : (m : Module) (fs : List Function) → are_indices (with_functions m fs) ≡ are_indices m
 are_indices_same m fs = λ along f slots facts indices. list_all (is_index_same m fs along f slots facts) indices
 
+element_of_known_by : (p : LaidOut) (fs : List Function) (v u source : ℕ) (base : Known) (indices : List Argument) (facts : FactSet) → element_of_known (laid_with p fs) v u source base indices facts ≡ element_of_known p v u source base indices facts
+element_of_known_by p fs v u source (Number bits below) indices facts = refl
+element_of_known_by p fs v u source base indices facts = λ along. define_words v u base (element_words_same p fs along facts source indices (start_of base)) facts
+
+pub element_of_known_same : (p : LaidOut) (fs : List Function) → element_of_known (laid_with p fs) ≡ element_of_known p
+element_of_known_same p fs = λ along v u source base indices facts. element_of_known_by p fs v u source base indices facts along
+
 after_element_by : (p : LaidOut) (fs : List Function) (v : ℕ) (source : ℕ) (base : Operand) (indices : List Argument) (facts : FactSet) → after_element (laid_with p fs) v source base indices facts ≡ after_element p v source base indices facts
-after_element_by p fs v source (Local u) indices facts = λ along. let base = known_at facts.values u in
-    define_words v u base (element_words_same p fs along facts source indices (start_of base)) facts
-after_element_by p fs v source base indices facts = refl
+after_element_by p fs v source (Local u) indices facts = λ along. element_of_known_same p fs along v u source (known_at facts.values u) indices facts
+after_element_by p fs v source base indices facts = λ along. define v (known_in_same p.of_module fs along facts base) facts
 
 pub after_element_same : (p : LaidOut) (fs : List Function) → after_element (laid_with p fs) ≡ after_element p
 after_element_same p fs = λ along v source base indices facts. after_element_by p fs v source base indices facts along

@@ -1,6 +1,7 @@
 -- Which certificate fits a function does not depend on other functions.
-use Rattle.std.specs.Prelude.{List, None, Option, Some, if◌then◌else◌, is_some, length, not, refl, replicate, slice_get, unwrap_or, ℕ, false, ◌&&◌, ◌==◌, ◌||◌, ◌≡◌}
+use Rattle.std.specs.Prelude.{List, None, Option, Some, if◌then◌else◌, is_none, is_some, length, not, refl, replicate, slice_get, unwrap_or, ℕ, false, ◌&&◌, ◌==◌, ◌||◌, ◌≡◌}
 use Rattle.std.specs.List.{list_all, zip}
+use Rattle.ir_ast.specs.Numbers.{small}
 use Rattle.ir_ast.specs.declared.block.Block.{Block}
 use Rattle.ir_ast.specs.declared.function.Function.{Function}
 use Rattle.ir_ast.specs.declared.function.LocalSort.{LocalSort}
@@ -16,12 +17,12 @@ use Rattle.ir_ast.specs.declared.op.Op.TheVariants.{Element, Memory}
 use Rattle.ir_ast.specs.declared.shapes.Shapes.{Shapes}
 use Rattle.types.specs.References.{is_opaque}
 use Rattle.types.specs.ValueTypes.{instruction_at}
-use Rattle.certs.specs.Families.{family_after, family_in, family_of_type, is_opaque_text, family_of_slot, family_of_part, family_of_op, family_of_element, family_of_sort, family_of_value, is_address, is_integer, is_reference}
-use Rattle.certs.specs.Fits.{blocks_fit, claim_fits, claims_fit, all_named_listed, entry_is_empty, fact_fits, is_value, lists_once, parameter_fits, parameters_fit, promise_fits, promised_below_fits, promised_fits, promised_layout_fits, says_something, section_fits}
+use Rattle.certs.specs.Families.{family_after, family_in, family_of_type, is_opaque_text, family_of_slot, family_of_part, family_of_op, family_of_element, family_of_sort, family_of_value, is_address, is_integer, is_reference, may_be_outside, same_bits}
+use Rattle.certs.specs.Fits.{below_fits, blocks_fit, claim_fits, claims_fit, all_named_listed, entry_is_empty, fact_fits, is_outside_fact, is_value, lists_once, parameter_fits, parameters_fit, promise_fits, promised_below_fits, promised_fits, promised_layout_fits, promised_number_fits, says_something, section_fits}
 use Rattle.certs.specs.RootNames.{root_names, roots_of_blocks}
 use Rattle.certs.specs.ShapesFit.{body_fits, op_fits, root_of, roots_fit, slot_fits}
 use Rattle.certs.specs.declared.family.Family.{Family}
-use Rattle.certs.specs.declared.family.Family.TheVariants.{Opaque}
+use Rattle.certs.specs.declared.family.Family.TheVariants.{Nothing, Number, Opaque}
 use Rattle.certs.specs.declared.section.Claim.{Claim}
 use Rattle.certs.specs.declared.section.Claim.TheVariants as claim
 use Rattle.certs.specs.declared.section.Fact.{Fact}
@@ -81,9 +82,17 @@ module _ (m : Module) (fs : List Function) where
   promised_layout_fits_by family None = refl
   promised_layout_fits_by family (Some layout) = refl
 
+  may_be_outside_by : (family : Family) → may_be_outside (with_functions m fs) family ≡ may_be_outside m family
+  may_be_outside_by (Number bits) = refl
+  may_be_outside_by Nothing = refl
+  may_be_outside_by _ = refl
+
+  promised_number_fits_same : promised_number_fits (with_functions m fs) ≡ promised_number_fits m
+  promised_number_fits_same = λ along family promise. not promise.number || (may_be_outside_by family along && (is_none promise.layout && (not promise.nonnull && is_none promise.below)))
+
   promise_fits_same : promise_fits (with_functions m fs) ≡ promise_fits m
   promise_fits_same = λ along family promise.
-      says_something promise && promised_layout_fits_by family promise.layout along && (not promise.nonnull || is_reference family) && promised_below_fits family promise.below
+      says_something promise && promised_number_fits_same along family promise && promised_layout_fits_by family promise.layout along && (not promise.nonnull || is_reference family) && promised_below_fits family promise.below
 
   promised_fits_by : (family : Family) (promise : Option Promise) → promised_fits (with_functions m fs) family promise ≡ promised_fits m family promise
   promised_fits_by family None = refl
@@ -97,8 +106,11 @@ module _ (m : Module) (fs : List Function) where
 
   -- ---- claims
 
+  is_outside_fact_same : is_outside_fact (with_functions m fs) ≡ is_outside_fact m
+  is_outside_fact_same = λ along family bits below. may_be_outside_by family along && ((bits == 64) && is_none below)
+
   fact_fits_by : (family : Family) (x : Fact) → fact_fits (with_functions m fs) family x ≡ fact_fits m family x
-  fact_fits_by family (fact.Number bits below) = refl
+  fact_fits_by family (fact.Number bits below) = λ along. (is_some (same_bits family (small bits)) && below_fits below) || is_outside_fact_same along family bits below
   fact_fits_by family (fact.Reference layout nonnull age same) = refl
   fact_fits_by family (fact.Address base words) = refl
   fact_fits_by family (fact.GlobalAddress symbol) = λ along. is_address family && is_some (global_named_same m fs along symbol)

@@ -1,14 +1,19 @@
 -- What a written type is to the rules, and what they ask of an operand, does not depend on functions.
-use Rattle.std.specs.Prelude.{List, None, Option, Some, refl, slice_get, ℕ, ◌&&◌, ◌==◌, ◌≡◌}
-use Rattle.block_rules.specs.Operands.{constant_fits, is_no_opaque_slot, is_of_type, is_typed, is_value, known_fits, known_of}
-use Rattle.type_kinds.specs.TypeKinds.{kind_at, kind_held, kind_in, kind_of, kind_of_type, place_kind, pointer_kind, pointer_to, slot_kind, struct_pointer}
+use Rattle.std.specs.Prelude.{List, None, Option, Some, if◌then◌else◌, refl, slice_get, ℕ, ◌&&◌, ◌==◌, ◌||◌, ◌≡◌}
+use Rattle.block_rules.specs.Operands.{constant_fits, is_no_opaque_slot, is_no_slot, is_number_known, is_of_type, is_outside_value, is_passed, is_typed, is_value, known_fits, known_in, known_of, outside_known, place_known}
+use Rattle.type_kinds.specs.TypeKinds.{is_pointer, kind_at, kind_held, kind_in, kind_of, kind_of_type, place_kind, pointer_kind, pointer_to, slot_kind, struct_pointer}
 use Rattle.ir_ast.specs.declared.function.Function.{Function}
 use Rattle.ir_ast.specs.declared.ir_type.IrType.{IrType}
 use Rattle.ir_ast.specs.declared.ir_type.IrType.TheVariants.{Array, Double, EmptyStruct, Float, Integer, Named, Opaque, Pointer, Struct, Void}
+use Rattle.ir_ast.specs.declared.items_of_module.SymbolSort.{SymbolSort}
+use Rattle.ir_ast.specs.declared.items_of_module.SymbolSort.TheVariants.{Declared}
 use Rattle.ir_ast.specs.declared.module.Module.{Module}
 use Rattle.ir_ast.specs.declared.operand.Operand.{Operand}
 use Rattle.ir_ast.specs.declared.operand.Operand.TheVariants.{CastGlobal, Constant as Written, Global, Local}
+use Rattle.facts.specs.Facts.{FactSet}
+use Rattle.outside_names.specs.Operands.{is_outside_operand}
 use Rattle.shadow_stack.specs.Slots.{held_type, slot_layout}
+use Rattle.types.specs.RuntimeCall.{is_outside, is_outside_sort}
 use Rattle.answers.proofs.Types.{has_type_same, pointee_same, points_to_global_same, struct_named_same}
 use Rattle.answers.specs.Local.{with_functions}
 
@@ -91,3 +96,35 @@ is_of_type_same m fs = λ along f facts written operand. is_typed_same m fs alon
 
 pub is_value_same : (m : Module) (fs : List Function) → is_value (with_functions m fs) ≡ is_value m
 is_value_same m fs = λ along f slots facts written operand. is_of_type_same m fs along f facts written operand && is_no_opaque_slot m slots written operand
+
+is_outside_sort_by : (m : Module) (fs : List Function) (sort : Option SymbolSort) → is_outside_sort (with_functions m fs) sort ≡ is_outside_sort m sort
+is_outside_sort_by m fs (Some (Declared d)) = refl
+is_outside_sort_by m fs _ = refl
+
+pub is_outside_same : (m : Module) (fs : List Function) → is_outside (with_functions m fs) ≡ is_outside m
+is_outside_same m fs = λ along symbol. is_outside_sort_by m fs (slice_get m.sorts symbol) along
+
+is_outside_operand_by : (m : Module) (fs : List Function) (operand : Operand) → is_outside_operand (with_functions m fs) operand ≡ is_outside_operand m operand
+is_outside_operand_by m fs (Global symbol) = λ along. is_outside_same m fs along symbol
+is_outside_operand_by m fs (CastGlobal from symbol to) = λ along. is_outside_same m fs along symbol
+is_outside_operand_by m fs _ = refl
+
+pub is_outside_operand_same : (m : Module) (fs : List Function) → is_outside_operand (with_functions m fs) ≡ is_outside_operand m
+is_outside_operand_same m fs = λ along operand. is_outside_operand_by m fs operand along
+
+pub is_outside_value_same : (m : Module) (fs : List Function) → is_outside_value (with_functions m fs) ≡ is_outside_value m
+is_outside_value_same m fs = λ along f slots facts written operand. is_pointer (kind_of_same m fs along written)
+    && (is_outside_operand_same m fs along operand || (is_number_known (known_of facts operand) && is_typed_same m fs along f written operand && is_no_slot slots operand))
+
+pub is_passed_same : (m : Module) (fs : List Function) → is_passed (with_functions m fs) ≡ is_passed m
+is_passed_same m fs = λ along f slots facts written operand. is_value_same m fs along f slots facts written operand || is_outside_value_same m fs along f slots facts written operand
+
+pub known_in_same : (m : Module) (fs : List Function) → known_in (with_functions m fs) ≡ known_in m
+known_in_same m fs = λ along facts operand. if is_outside_operand_same m fs along operand then outside_known else known_of facts operand
+
+place_known_by : (m : Module) (fs : List Function) (facts : FactSet) (written : ℕ) (operand : Operand) → place_known (with_functions m fs) facts written operand ≡ place_known m facts written operand
+place_known_by m fs facts written (Local v) = refl
+place_known_by m fs facts written operand = λ along. known_in_same m fs along facts operand
+
+pub place_known_same : (m : Module) (fs : List Function) → place_known (with_functions m fs) ≡ place_known m
+place_known_same m fs = λ along facts written operand. place_known_by m fs facts written operand along

@@ -1,7 +1,7 @@
 -- What is asked of loads and stores, and what is known after them, does not depend on functions.
 use Rattle.std.specs.Prelude.{List, None, Option, Some, [], is_some, not, refl, ℕ, ◌&&◌, ◌==◌, ◌||◌, ◌∷◌, ◌≡◌}
 use Rattle.block_rules.specs.Barriers.{after_read, after_read_call, is_own_place, is_read, is_write, may_read, may_write, names_object, needs_no_barrier, read_conditions, write_conditions}
-use Rattle.block_rules.specs.Operands.{is_available, is_based, is_current, is_no_slot, is_null_constant, known_fits, known_of, place_known, slot_named}
+use Rattle.block_rules.specs.Operands.{is_available, is_based, is_current, is_no_slot, is_null_constant, known_fits, known_of, slot_named}
 use Rattle.types.specs.References.{is_opaque}
 use Rattle.block_rules.specs.Places.{is_one_layout, after_load, load_base, load_kind, load_known, load_place, loads_base, loads_known, loads_local, loads_slot, may_load, may_store, moves, moves_kind, stores_base, stores_known, stores_local, stores_slot}
 use Rattle.type_kinds.specs.TypeKinds.{is_any_reference, is_word, may_be_reference}
@@ -22,7 +22,7 @@ use Rattle.layout.specs.Layouts.{LaidOut}
 use Rattle.pools.specs.declared.word_set.WordSet.{WordSet}
 use Rattle.shadow_stack.specs.Slots.{SlotTable, held_type, slot_of}
 use Rattle.answers.proofs.Casts.{casts_operand_same}
-use Rattle.answers.proofs.Operands.{is_typed_same, is_value_same, kind_of_same, slot_kind_same}
+use Rattle.answers.proofs.Operands.{is_typed_same, is_value_same, kind_of_same, place_known_same, slot_kind_same}
 use Rattle.answers.proofs.Signature.{is_written_as_same}
 use Rattle.answers.specs.Local.{laid_with, with_functions}
 
@@ -128,7 +128,7 @@ pub load_place_same : (p : LaidOut) (fs : List Function) → load_place (laid_wi
 load_place_same p fs = λ along slots v loaded place slot facts. load_place_by p fs slots v loaded place slot facts along
 
 pub after_load_same : (p : LaidOut) (fs : List Function) → after_load (laid_with p fs) ≡ after_load p
-after_load_same p fs = λ along slots v loaded place_type place facts. load_place_same p fs along slots v loaded (place_known p.of_module facts place_type place) (slot_named slots place) facts
+after_load_same p fs = λ along slots v loaded place_type place facts. load_place_same p fs along slots v loaded (place_known_same p.of_module fs along facts place_type place) (slot_named slots place) facts
 
 pub is_one_layout_same : (p : LaidOut) (fs : List Function) → is_one_layout (laid_with p fs) ≡ is_one_layout p
 is_one_layout_same p fs = λ along facts stored place. not (is_opaque p.of_module stored) || loads_known_same p fs along facts (kind_of_same p.of_module fs along stored) place
@@ -141,21 +141,21 @@ may_read_same p fs = λ along slots facts place known. is_some (slot_named slots
 
 pub is_read_same : (p : LaidOut) (fs : List Function) → is_read (laid_with p fs) ≡ is_read p
 is_read_same p fs = λ along f slots facts returned object place. is_value_same p.of_module fs along f slots facts object.written object.operand
-    && is_typed_same p.of_module fs along f place.written place.operand && may_read_same p fs along slots facts place.operand (place_known p.of_module facts place.written place.operand)
+    && is_typed_same p.of_module fs along f place.written place.operand && may_read_same p fs along slots facts place.operand (place_known_same p.of_module fs along facts place.written place.operand)
     && is_written_as_same p.of_module fs along returned (object ∷ place ∷ []) GcRead
 
 pub read_conditions_same : (p : LaidOut) (fs : List Function) → read_conditions (laid_with p fs) ≡ read_conditions p
 read_conditions_same p fs = λ along f slots here facts returned object place. (K1, is_available slots facts object.operand && is_available slots facts place.operand)
     ∷ (K2, is_read_same p fs along f slots facts returned object place)
-    ∷ (K3, is_current facts (known_of facts object.operand) && is_current facts (place_known p.of_module facts place.written place.operand))
-    ∷ (K4, is_based facts place.operand (place_known p.of_module facts place.written place.operand))
-    ∷ (K7, names_object facts object.operand (place_known p.of_module facts place.written place.operand))
+    ∷ (K3, is_current facts (known_of facts object.operand) && is_current facts (place_known_same p.of_module fs along facts place.written place.operand))
+    ∷ (K4, is_based facts place.operand (place_known_same p.of_module fs along facts place.written place.operand))
+    ∷ (K7, names_object facts object.operand (place_known_same p.of_module fs along facts place.written place.operand))
     ∷ (K10, is_no_slot slots object.operand && is_no_slot slots place.operand)
     ∷ (K12, here.may_move_references)
     ∷ (K19, casts_operand_same p.of_module fs along place.operand) ∷ []
 
 after_read_by : (p : LaidOut) (fs : List Function) (v : ℕ) (arguments : List Argument) (facts : FactSet) → after_read (laid_with p fs) v arguments facts ≡ after_read p v arguments facts
-after_read_by p fs v (object ∷ place ∷ []) facts = λ along. load_known_same p fs along v AnyReference (place_known p.of_module facts place.written place.operand) facts
+after_read_by p fs v (object ∷ place ∷ []) facts = λ along. load_known_same p fs along v AnyReference (place_known_same p.of_module fs along facts place.written place.operand) facts
 after_read_by p fs v _ facts = refl
 
 pub after_read_same : (p : LaidOut) (fs : List Function) → after_read (laid_with p fs) ≡ after_read p
@@ -173,7 +173,7 @@ may_write_same p fs = λ along slots facts value place known. is_some (slot_name
 
 pub is_write_same : (p : LaidOut) (fs : List Function) → is_write (laid_with p fs) ≡ is_write p
 is_write_same p fs = λ along f slots facts returned value object place. is_value_same p.of_module fs along f slots facts value.written value.operand && is_value_same p.of_module fs along f slots facts object.written object.operand
-    && is_typed_same p.of_module fs along f place.written place.operand && may_write_same p fs along slots facts value.operand place.operand (place_known p.of_module facts place.written place.operand) && is_one_layout_same p fs along facts value.written (place_known p.of_module facts place.written place.operand)
+    && is_typed_same p.of_module fs along f place.written place.operand && may_write_same p fs along slots facts value.operand place.operand (place_known_same p.of_module fs along facts place.written place.operand) && is_one_layout_same p fs along facts value.written (place_known_same p.of_module fs along facts place.written place.operand)
     && is_written_as_same p.of_module fs along returned (value ∷ object ∷ place ∷ []) GcWrite
 
 pub write_conditions_same : (p : LaidOut) (fs : List Function) → write_conditions (laid_with p fs) ≡ write_conditions p
@@ -182,10 +182,10 @@ write_conditions_same p fs = λ along f slots here facts returned value object p
     ∷ (
       K3,
       is_current facts (known_of facts value.operand)
-          && is_current facts (known_of facts object.operand) && is_current facts (place_known p.of_module facts place.written place.operand),
+          && is_current facts (known_of facts object.operand) && is_current facts (place_known_same p.of_module fs along facts place.written place.operand),
     )
-    ∷ (K4, is_based facts place.operand (place_known p.of_module facts place.written place.operand))
-    ∷ (K7, names_object facts object.operand (place_known p.of_module facts place.written place.operand))
+    ∷ (K4, is_based facts place.operand (place_known_same p.of_module fs along facts place.written place.operand))
+    ∷ (K7, names_object facts object.operand (place_known_same p.of_module fs along facts place.written place.operand))
     ∷ (K10, is_no_slot slots value.operand && is_no_slot slots object.operand && is_no_slot slots place.operand)
     ∷ (K12, here.may_move_references)
     ∷ (K19, casts_operand_same p.of_module fs along place.operand) ∷ []

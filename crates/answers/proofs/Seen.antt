@@ -27,7 +27,7 @@ use Rattle.block_rules.specs.Signature.{signature_of, is_declared_as, is_foreign
 use Rattle.block_rules.specs.Calls.{all_available, all_current, no_slots, is_written_for, is_written_with, defined_conditions, call_conditions, drop_arguments, after_call}
 use Rattle.answers.specs.Local.{with_functions, laid_with, types_of, Interface, function_of_sort, IfThere, LooksSame}
 use Rattle.answers.proofs.Signature.{callable_declare_same}
-use Rattle.answers.proofs.Calls.{after_alloc_same, all_values_same, root_conditions_same, alloc_conditions_same, safepoint_conditions_same, integer_conditions_same, foreign_conditions_same, read_call_conditions_same, write_call_conditions_same, refused_conditions_same, receive_result_same, after_integer_call_same}
+use Rattle.answers.proofs.Calls.{after_alloc_same, all_passed_same, say_what_they_are_same, root_conditions_same, alloc_conditions_same, safepoint_conditions_same, integer_conditions_same, foreign_conditions_same, read_call_conditions_same, write_call_conditions_same, refused_conditions_same, receive_result_same, after_integer_call_same, after_foreign_call_same}
 use Rattle.answers.proofs.Places.{after_read_call_same}
 
 -- ---- types
@@ -138,11 +138,11 @@ module _ (p : LaidOut) (certs : List Section) (fs : List Function) (others : Lis
       let written = written_same returned arguments (slice_get fs called) (slice_get p.of_module.functions called) (ap (λ (x : Interface). x.types) h) in
       λ along.
       (K1, all_available slots facts arguments)
-      ∷ (K2, all_values_same p.of_module fs along f slots facts arguments && written along)
+      ∷ (K2, all_passed_same p.of_module fs along f slots facts arguments && written along)
       ∷ (K3, all_current facts arguments)
       ∷ (K10, no_slots slots arguments)
       ∷ (K12, here.may_move_references)
-      ∷ (K13, show_promises facts arguments (h along).parameters)
+      ∷ (K13, show_promises facts arguments (h along).parameters && say_what_they_are_same p.of_module fs along f slots facts arguments (h along).parameters)
       ∷ (K17, marks_agree here.mark (h along).mark) ∷ []
 
   -- what is asked of a call
@@ -171,5 +171,5 @@ module _ (p : LaidOut) (certs : List Section) (fs : List Function) (others : Lis
   after_call_same slots result returned arguments (OfRuntime (Float function bits)) facts h = λ along. after_integer_call_same p.of_module fs along result returned facts
   after_call_same slots result returned arguments (OfModule called) facts h =
       λ along. receive_result_same p.of_module fs along result returned (h along).result (after_mark (h along).mark (drop_arguments arguments facts))
-  after_call_same slots result returned arguments (Foreign d) facts h = λ along. after_integer_call_same p.of_module fs along result returned facts
+  after_call_same slots result returned arguments (Foreign d) facts h = λ along. after_foreign_call_same p.of_module fs along result returned facts
   after_call_same slots result returned arguments (NoFunction named) facts h = refl

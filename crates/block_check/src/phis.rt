@@ -6,9 +6,9 @@ ghost use Rattle.block_check.specs.PhiOperands.{entries_at};
 ghost use Rattle.block_check.specs.FunctionUnderCheck.{IsReady};
 
 use crate::under_check::{FunctionUnderCheck, phis_of};
-use block_rules::{TypeKind, below_next, known_of};
+use block_rules::{TypeKind, below_next, known_in};
 use facts::{Entry, Facts, Known};
-use ir_ast::{BlockId, Constant, Operand};
+use ir_ast::{BlockId, Constant, Module, Operand};
 use items::Items;
 use std::alloc::AllocError;
 
@@ -45,12 +45,17 @@ fn constant_comes_in(constant: Constant, kind: TypeKind) -> Known
     }
 }
 
-fn known_comes_in(facts: &Facts, kind: TypeKind, operand: &Option<Operand>) -> Known
-    ensures { result ≡ known_comes_in facts.now kind operand.now }
+fn known_comes_in(
+    module: &Module,
+    facts: &Facts,
+    kind: TypeKind,
+    operand: &Option<Operand>,
+) -> Known
+    ensures { result ≡ known_comes_in «module».now facts.now kind operand.now }
 {
     match operand {
         Some(Operand::Constant(constant)) => constant_comes_in(*constant, kind),
-        Some(operand) => known_of(facts, operand),
+        Some(operand) => known_in(module, facts, operand),
         None => Known::Nothing,
     }
 }
@@ -83,8 +88,9 @@ pub fn record_entries(
     let phis = phis_of(under_check.context.function, to);
     for (place, phi) in phis.iter().enumerate() {
         let operand = operand_from(under_check, to, place, from);
-        let kind = TypeKind::of(under_check.context.module(), phi.written);
-        let known = known_comes_in(facts, kind, &operand);
+        let module = under_check.context.module();
+        let kind = TypeKind::of(module, phi.written);
+        let known = known_comes_in(module, facts, kind, &operand);
         entries.push(Entry {
             phi: phi.value,
             known,

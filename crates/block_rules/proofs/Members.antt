@@ -1,15 +1,11 @@
 -- Sets of words that lie below a word.
-use Rattle.std.proofs.Common.{◌≡◌, ℕ, zero, suc, ◌+◌, ◌-◌, ◌<◌, ◌≤◌, Bool, true, false, cond, not, ◌&&◌, ◌||◌, nat_lt, List, [], ◌∷◌, Option, Some, None, refl, ap, sym, subst, ◌∙◌, arith}
+use Rattle.std.proofs.Common.{◌≡◌, ℕ, zero, suc, ◌+◌, ◌-◌, ◌<◌, ◌≤◌, Bool, true, false, cond, not, ◌&&◌, ◌||◌, nat_lt, Option, Some, refl, ap, sym, ◌∙◌, arith}
 use Rattle.std.proofs.lemmas.Bool.{lt-ltb, le-ltb}
-use Rattle.std.specs.Prelude.{if◌then◌else◌, filter, is_some, IfSome}
+use Rattle.std.specs.Prelude.{is_some}
 use Rattle.std.specs.List.{find, list_all, range_with_len}
-use Rattle.pools.specs.Layouts.{kind_of_word}
 use Rattle.pools.specs.WordSets.{has_word}
-use Rattle.pools.specs.declared.word_kind.WordKind.{WordKind}
 use Rattle.pools.specs.declared.word_set.WordSet.{WordSet}
 use Rattle.block_rules.specs.Elements.{lie_below}
-use Rattle.type_kinds.specs.WantedWords.{each_word, first_layout, holds_wanted, layout_of_word, cell_words}
-use Rattle.type_kinds.specs.declared.wanted_word.WantedWord.{WantedWord}
 
 lie_from : (set : WordSet) (count first n : ℕ) → count ≤ first → list_all (λ w. not (has_word set w) || nat_lt w count) (range_with_len first n) ≡ not (is_some (find (has_word set) (range_with_len first n)))
 lie_from set count first zero le = refl

@@ -9,6 +9,7 @@ use Rattle.layout.specs.Globals.{global_word}
 use Rattle.layout.specs.Layouts.{LaidOut}
 use Rattle.pools.specs.declared.word_kind.WordKind.{WordKind}
 use Rattle.pools.specs.declared.word_set.WordSet.{WordSet}
+use Rattle.types.specs.RuntimeCall.{is_outside}
 use Rattle.shadow_stack.specs.Slots.{SlotTable, slot_of}
 use Rattle.fact_tables.specs.declared.known.Known.{Known}
 use Rattle.fact_tables.specs.declared.known.Known.TheVariants.{Nothing, Number, Cell, Null, Address, GlobalAddress}
@@ -16,7 +17,7 @@ use Rattle.fact_tables.specs.Rows.{known_at, off_base}
 use Rattle.facts.specs.Facts.{FactSet, define}
 use Rattle.type_kinds.specs.declared.type_kind.TypeKind.{TypeKind}
 use Rattle.type_kinds.specs.declared.type_kind.TypeKind.TheVariants.{Bits, Reference}
-use Rattle.block_rules.specs.Operands.{known_of}
+use Rattle.block_rules.specs.Operands.{known_of, known_in}
 use Rattle.type_kinds.specs.WantedWords.{layout_of_word, loads_words}
 use Rattle.block_rules.specs.Places.{define_held}
 use Rattle.type_kinds.specs.TypeKinds.{kind_of, slot_kind, place_kind, is_bits, may_be_reference, fits_layout, layout_of_kind}
@@ -57,9 +58,9 @@ casts_to (Some layout) to = fits_layout layout to
 abbrev pub casts_global : Module → (to symbol : ℕ) → Bool
 casts_global m to symbol = casts_to (layout_of_word (global_word m symbol)) (place_kind m to)
 
--- K19: a global is used at its own type, or at one of the same layout; other operands are not cast where they are used
+-- K19: a global is used at its own type, or at one of the same layout, and what is outside at each; other operands are not cast where they are used
 abbrev pub casts_operand : Module → Operand → Bool
-casts_operand m (CastGlobal from symbol to) = (from == to) || casts_global m to symbol
+casts_operand m (CastGlobal from symbol to) = (from == to) || casts_global m to symbol || is_outside m symbol
 casts_operand m _ = true
 
 -- a number of a type of its bits may be named as one of another type of as many; a reference to a layout as one, or as `i8*`
@@ -111,4 +112,4 @@ cast_local v u known (Some s) facts = facts
 abbrev pub after_cast : Module → SlotTable → (v from to : ℕ) → Operand → FactSet → FactSet
 after_cast m slots v from to (Written c) facts = cast_constant m v from to c facts
 after_cast m slots v from to (Local u) facts = cast_local v u (known_at facts.values u) (slot_of slots u) facts
-after_cast m slots v from to operand facts = define v (known_of facts operand) facts
+after_cast m slots v from to operand facts = define v (known_in m facts operand) facts

@@ -27,7 +27,7 @@ use Rattle.facts.specs.Facts.{FactSet, learn_test, after_phis}
 use Rattle.facts.specs.Claims.{facts_of_claims, facts_of_parameters, implies_claim}
 use Rattle.type_kinds.specs.declared.type_kind.TypeKind.{TypeKind}
 use Rattle.type_kinds.specs.declared.type_kind.TypeKind.TheVariants as kind
-use Rattle.block_rules.specs.Operands.{known_of}
+use Rattle.block_rules.specs.Operands.{known_in}
 use Rattle.type_kinds.specs.TypeKinds.{kind_of}
 use Rattle.block_rules.specs.InstrContext.{phis_of, end_of}
 use Rattle.block_rules.specs.Bounds.{below_next}
@@ -126,14 +126,14 @@ constant_comes_in constant.Null kind = Null
 constant_comes_in (constant.Truth b) kind = Nothing
 
 -- what is known of what comes in
-abbrev pub known_comes_in : FactSet → TypeKind → Option Operand → Known
-known_comes_in facts kind None = Nothing
-known_comes_in facts kind (Some (Written c)) = constant_comes_in c kind
-known_comes_in facts kind (Some operand) = known_of facts operand
+abbrev pub known_comes_in : Module → FactSet → TypeKind → Option Operand → Known
+known_comes_in m facts kind None = Nothing
+known_comes_in m facts kind (Some (Written c)) = constant_comes_in c kind
+known_comes_in m facts kind (Some operand) = known_in m facts operand
 
 -- a phi, with what is known of what comes in from a block
 abbrev pub phi_comes_in : Module → Function → (from : ℕ) → FactSet → Phi → Entry
-phi_comes_in m f from facts phi = record { phi = phi.value; known = known_comes_in facts (kind_of m phi.written) (operand_from f from phi.incoming) }
+phi_comes_in m f from facts phi = record { phi = phi.value; known = known_comes_in m facts (kind_of m phi.written) (operand_from f from phi.incoming) }
 
 -- each of these phis
 abbrev pub comes_in : Module → Function → (from : ℕ) → FactSet → List Phi → List Entry

@@ -1,19 +1,22 @@
 -- Arithmetic, changes of width, comparisons, and the choice between two values.
 use Rattle.std.specs.Prelude.{ℕ, ◌==◌, Bool, true, false, ◌&&◌, if◌then◌else◌, Option, Some, None, nat_lt}
+use Rattle.ir_ast.specs.declared.module.Module.{Module}
 use Rattle.ir_ast.specs.declared.numbers.Arithmetic.{Arithmetic}
 use Rattle.ir_ast.specs.declared.numbers.Arithmetic.TheVariants as arithmetic
 use Rattle.ir_ast.specs.declared.numbers.Comparison.{Comparison}
 use Rattle.ir_ast.specs.declared.numbers.Comparison.TheVariants as comparison
 use Rattle.ir_ast.specs.declared.numbers.Resize.{Resize}
 use Rattle.ir_ast.specs.declared.numbers.Resize.TheVariants as resize
+use Rattle.ir_ast.specs.declared.operand.Constant.{Constant}
 use Rattle.ir_ast.specs.declared.operand.Operand.{Operand}
 use Rattle.ir_ast.specs.declared.operand.Operand.TheVariants.{Constant as Written, Local}
 use Rattle.fact_tables.specs.declared.known.Known.{Known}
 use Rattle.fact_tables.specs.declared.known.Known.TheVariants.{Nothing, Number, Cell}
+use Rattle.fact_tables.specs.Rows.{known_at}
 use Rattle.facts.specs.Facts.{FactSet, define, define_test, drop_fresh_of}
 use Rattle.type_kinds.specs.declared.type_kind.TypeKind.{TypeKind}
 use Rattle.type_kinds.specs.declared.type_kind.TypeKind.TheVariants.{Bits, Reference, AnyReference}
-use Rattle.block_rules.specs.Operands.{known_of, number_of, is_nonnull}
+use Rattle.block_rules.specs.Operands.{known_of, known_in, number_of, is_nonnull, is_null_constant, is_number_known}
 use Rattle.block_rules.specs.Places.{define_held}
 use Rattle.type_kinds.specs.TypeKinds.{layout_of_kind}
 use Rattle.block_rules.specs.Bounds.{below_next}
@@ -89,9 +92,14 @@ may_compare kind (Reference layout) = is_equality kind
 may_compare kind AnyReference = is_equality kind
 may_compare kind _ = false
 
--- a comparison of a value with a constant is kept as a test, from which the edges that it decides learn
+-- a comparison of a value with a constant is kept as a test; whether an address outside is null tells nothing
+abbrev pub after_constant : (v u : ℕ) → Comparison → Constant → Known → FactSet → FactSet
+after_constant v u kind c known facts =
+    if is_null_constant c && is_number_known known then define v (Number 1 None) facts else define_test v (record { tested = u; kind = kind; constant = c }) facts
+
+-- after a comparison; from a test the edges that it decides learn
 abbrev pub after_compare : (v : ℕ) → Comparison → (first second : Operand) → FactSet → FactSet
-after_compare v kind (Local u) (Written c) facts = define_test v (record { tested = u; kind = kind; constant = c }) facts
+after_compare v kind (Local u) (Written c) facts = after_constant v u kind c (known_at facts.values u) facts
 after_compare v kind _ _ facts = define v (Number 1 None) facts
 
 -- the layout of a reference, if it is known
@@ -125,7 +133,12 @@ abbrev pub choose_reference : (v : ℕ) → TypeKind → (chosen other : Known) 
 choose_reference v kind chosen other facts =
     define_held v (chosen_layout kind chosen other) (is_nonnull facts chosen && is_nonnull facts other) (drop_fresh_of other (drop_fresh_of chosen facts))
 
+-- one of two pointers: of two addresses outside it is one
+abbrev pub choose_pointer : (v : ℕ) → TypeKind → (chosen other : Known) → FactSet → FactSet
+choose_pointer v kind (Number bits below) other facts = define v (Number bits None) facts
+choose_pointer v kind chosen other facts = choose_reference v kind chosen other facts
+
 -- after a choice
-abbrev pub after_select : (v : ℕ) → TypeKind → (chosen other : Operand) → FactSet → FactSet
-after_select v (Bits bits) chosen other facts = define v (Number bits (weaker_bound (below_of facts chosen) (below_of facts other))) facts
-after_select v kind chosen other facts = choose_reference v kind (known_of facts chosen) (known_of facts other) facts
+abbrev pub after_select : Module → (v : ℕ) → TypeKind → (chosen other : Operand) → FactSet → FactSet
+after_select m v (Bits bits) chosen other facts = define v (Number bits (weaker_bound (below_of facts chosen) (below_of facts other))) facts
+after_select m v kind chosen other facts = choose_pointer v kind (known_in m facts chosen) (known_in m facts other) facts

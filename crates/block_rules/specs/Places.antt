@@ -18,8 +18,8 @@ use Rattle.type_kinds.specs.declared.wanted_word.WantedWord.TheVariants as want
 use Rattle.type_kinds.specs.declared.type_kind.TypeKind.{TypeKind}
 use Rattle.type_kinds.specs.declared.type_kind.TypeKind.TheVariants.{Bits, Reference, AnyReference}
 use Rattle.type_kinds.specs.WantedWords.{holds_wanted, layout_of_word, cell_words, each_word, first_layout, loads_words, loads_word, wanted_by_store}
-use Rattle.block_rules.specs.Operands.{slot_named, place_known, known_fits, is_null_constant}
-use Rattle.type_kinds.specs.TypeKinds.{kind_of, slot_kind, is_any_reference, is_word}
+use Rattle.block_rules.specs.Operands.{slot_named, outside_known, place_known, known_fits, is_null_constant}
+use Rattle.type_kinds.specs.TypeKinds.{kind_of, slot_kind, is_any_reference, is_word, is_pointer}
 
 -- a value may be loaded from a slot: the load writes the type that the slot holds, or i8*; a slot that does not exist holds nothing
 abbrev pub loads_slot : Module → (written : ℕ) → (held : Option ℕ) → Bool
@@ -124,6 +124,11 @@ load_kind v s (Bits bits) facts = define v (Number bits None) facts
 load_kind v s (Reference layout) facts = load_slot v s layout facts
 load_kind v s _ facts = define v Nothing facts
 
+-- v is from outside: a number of its bits, or an address outside
+abbrev pub define_given : (v : ℕ) → TypeKind → FactSet → FactSet
+define_given v (Bits bits) facts = define v (Number bits None) facts
+define_given v kind facts = define v (if is_pointer kind then outside_known else Nothing) facts
+
 -- a load of this kind from words of a layout is a number of its bits, or null or a held cell
 abbrev pub load_words : (layouts : List (List WordKind)) → (v : ℕ) → (layout : ℕ) → WordSet → TypeKind → FactSet → FactSet
 load_words layouts v layout words (Bits bits) facts = define v (Number bits None) facts
@@ -147,6 +152,7 @@ load_word v _ word facts = define v Nothing facts
 abbrev pub load_known : LaidOut → (v : ℕ) → TypeKind → Known → FactSet → FactSet
 load_known p v kind (Address base words) facts = load_base p v kind words (known_at facts.values base) facts
 load_known p v kind (GlobalAddress symbol) facts = load_word v kind (global_word p.of_module symbol) facts
+load_known p v kind (Number bits below) facts = define_given v kind facts
 load_known p v kind _ facts = define v Nothing facts
 
 -- after a load, by the slot that the place is

@@ -1,5 +1,5 @@
 -- The rules: when an instruction is allowed, and what is known after it.
-use Rattle.std.specs.Prelude.{◌≡◌, ℕ, ◌==◌, Bool, false, not, ◌&&◌, ◌||◌, List, [], ◌∷◌, length, slice_get, nat_lt, Option, Some, None, is_some}
+use Rattle.std.specs.Prelude.{ℕ, ◌==◌, Bool, false, not, ◌&&◌, ◌||◌, List, [], ◌∷◌, length, slice_get, nat_lt, Option, Some, None, is_some}
 use Rattle.std.specs.List.{list_all}
 use Rattle.ir_ast.specs.declared.casts.Cast.{Cast}
 use Rattle.ir_ast.specs.declared.choices.Choice.{Choice}
@@ -11,7 +11,7 @@ use Rattle.ir_ast.specs.declared.ends.End.{End}
 use Rattle.ir_ast.specs.declared.ends.End.TheVariants as end
 use Rattle.ir_ast.specs.declared.function.Function.{Function}
 use Rattle.ir_ast.specs.declared.function.LocalSort.{LocalSort}
-use Rattle.ir_ast.specs.declared.function.LocalSort.TheVariants.{Value}
+use Rattle.ir_ast.specs.declared.function.LocalSort.TheVariants.{Value, Element as ElementName}
 use Rattle.ir_ast.specs.declared.instr.Instr.{Instr}
 use Rattle.ir_ast.specs.declared.memory.MemoryOp.{MemoryOp}
 use Rattle.ir_ast.specs.declared.memory.MemoryOp.TheVariants as memory
@@ -23,24 +23,25 @@ use Rattle.ir_ast.specs.declared.op.Op.TheVariants as op
 use Rattle.ir_ast.specs.declared.operand.Operand.{Operand}
 use Rattle.ir_ast.specs.declared.operand.Operand.TheVariants.{Constant as Written, Local}
 use Rattle.layout.specs.Layouts.{LaidOut}
-use Rattle.types.specs.ValueTypes.{target_of}
+use Rattle.outside_names.specs.Operands.{is_outside_operand}
+use Rattle.types.specs.ValueTypes.{target_of, has_type}
 use Rattle.shadow_stack.specs.Slots.{SlotTable, slot_of, is_opaque_address, is_among}
 use Rattle.certs.specs.declared.section.Section.{Section}
 use Rattle.facts.specs.Facts.{FactSet, end_slot}
 use Rattle.block_rules.specs.declared.rule.Rule.{Rule}
 use Rattle.block_rules.specs.declared.rule.Rule.TheVariants.{K1, K2, K3, K4, K5, K6, K8, K10, K11, K12, K14, K19}
 use Rattle.block_rules.specs.declared.instr_context.InstrContext.{InstrContext}
-use Rattle.block_rules.specs.FirstFailing.{first_failing}
-use Rattle.block_rules.specs.Operands.{slot_named, known_of, is_available, constant_fits, is_typed, is_value, is_current, place_known, is_based, is_no_slot}
+use Rattle.block_rules.specs.Operands.{slot_named, known_of, is_available, constant_fits, is_typed, is_value, is_passed, is_outside_value, is_current, is_null, place_known, is_based, is_no_slot}
 use Rattle.block_rules.specs.Places.{may_load, may_store, is_one_layout, after_load, after_store}
 use Rattle.block_rules.specs.Signature.{callee_of}
+use Rattle.type_kinds.specs.declared.type_kind.TypeKind.{TypeKind}
 use Rattle.type_kinds.specs.TypeKinds.{kind_of, is_integer, is_pointer, is_void, is_bits}
 use Rattle.block_rules.specs.Barriers.{needs_no_barrier}
 use Rattle.block_rules.specs.Casts.{casts_operand, may_cast, after_cast}
 use Rattle.block_rules.specs.Elements.{may_be_base, are_indices, may_lead, after_element}
 use Rattle.block_rules.specs.Floats.{float_conditions, float_kind}
 use Rattle.block_rules.specs.Integers.{below_of, arithmetic_below, define_number, may_resize, resized_below, may_compare, after_compare, known_layout, one_layout, may_choose, after_select}
-use Rattle.block_rules.specs.Promises.{keeps_promise}
+use Rattle.block_rules.specs.Promises.{keeps_promise, says_what_it_is}
 use Rattle.block_rules.specs.Calls.{no_slots, call_conditions, after_call}
 
 -- K8: an alloca is of an integer, or of a reference, and some gcroot of the function names its slot
@@ -57,16 +58,17 @@ gives_root slots (Some v) = names_root slots (slot_of slots v)
 abbrev pub may_hold : Module → SlotTable → (result : Option ℕ) → (held : ℕ) → Bool
 may_hold m slots result held = is_integer (kind_of m held) || gives_root slots result
 
--- K2: an entry of a phi is a constant of its type, or a value to which the text gives that type; a slot or an address is none
-abbrev pub is_entry : Function → (written v : ℕ) → Option LocalSort → Bool
-is_entry f written v (Some (Value given)) = given == written
-is_entry f written v _ = false
+-- K2: an entry of a phi is a constant of its type, a value to which the text gives that type, with the wide forms the name of a getelementptr, or the name of something outside; a slot is none
+abbrev pub is_entry : Module → Function → (written v : ℕ) → Option LocalSort → Bool
+is_entry m f written v (Some (Value given)) = given == written
+is_entry m f written v (Some (ElementName block place)) = m.wide && has_type m f written v
+is_entry m f written v _ = false
 
 -- by the operand
 abbrev pub may_come_in : Module → Function → SlotTable → (written : ℕ) → Operand → Bool
 may_come_in m f slots written (Written c) = constant_fits c (kind_of m written)
-may_come_in m f slots written (Local v) = is_entry f written v (slice_get f.sorts v) && not (is_some (slot_of slots v)) && not (is_opaque_address m slots written (Local v))
-may_come_in m f slots written _ = false
+may_come_in m f slots written (Local v) = is_entry m f written v (slice_get f.sorts v) && not (is_some (slot_of slots v)) && (m.wide || not (is_opaque_address m slots written (Local v)))
+may_come_in m f slots written operand = is_outside_operand m operand && is_pointer (kind_of m written)
 
 -- each entry of a phi
 abbrev pub all_come_in : Module → Function → SlotTable → (written : ℕ) → List Incoming → Bool
@@ -93,6 +95,32 @@ are_cases m f written cases = list_all (is_case m f written) cases
 abbrev pub is_condition : Module → Function → SlotTable → FactSet → (written : ℕ) → Operand → Bool
 is_condition m f slots facts written condition = is_bits 1 (kind_of m written) && is_value m f slots facts written condition
 
+-- ---- addresses outside
+
+-- K2: a number or an address outside is read there
+abbrev pub is_datum : TypeKind → Bool
+is_datum kind = is_integer kind || is_pointer kind
+
+-- K2: a load is from an address outside
+abbrev pub loads_outside : Module → Function → SlotTable → FactSet → (loaded place_type : ℕ) → Operand → Bool
+loads_outside m f slots facts loaded place_type place = is_outside_value m f slots facts place_type place && is_datum (kind_of m loaded)
+
+-- K2: a number or an address outside is stored there, and no reference
+abbrev pub stores_outside : Module → Function → SlotTable → FactSet → (stored : ℕ) → (value : Operand) → (place_type : ℕ) → (place : Operand) → Bool
+stores_outside m f slots facts stored value place_type place =
+    is_outside_value m f slots facts place_type place
+    && ((is_integer (kind_of m stored) && is_value m f slots facts stored value) || is_outside_value m f slots facts stored value)
+
+-- K2: addresses outside are compared, or one with null
+abbrev pub compares_outside : Module → Function → SlotTable → FactSet → (written : ℕ) → (first second : Operand) → Bool
+compares_outside m f slots facts written first second =
+    (is_outside_value m f slots facts written first && (is_outside_value m f slots facts written second || is_null second))
+    || (is_null first && is_outside_value m f slots facts written second)
+
+-- K19: an address outside may have each pointer type
+abbrev pub casts_outside : Module → Function → SlotTable → FactSet → (from to : ℕ) → Operand → Bool
+casts_outside m f slots facts from to operand = is_outside_value m f slots facts from operand && is_pointer (kind_of m to)
+
 -- ---- the conditions, in the order of their numbers
 
 -- of an operation on numbers
@@ -107,7 +135,7 @@ number_conditions p f slots here facts (number.Resize kind from operand to) =
     ∷ (K12, here.may_move_references) ∷ []
 number_conditions p f slots here facts (number.Compare kind written first second) =
     (K1, is_available slots facts first && is_available slots facts second)
-    ∷ (K2, is_value p.of_module f slots facts written first && is_value p.of_module f slots facts written second && may_compare kind (kind_of p.of_module written))
+    ∷ (K2, (is_value p.of_module f slots facts written first && is_value p.of_module f slots facts written second && may_compare kind (kind_of p.of_module written)) || compares_outside p.of_module f slots facts written first second)
     ∷ (K3, is_current facts (known_of facts first) && is_current facts (known_of facts second))
     ∷ (K10, is_no_slot slots first && is_no_slot slots second)
     ∷ (K12, here.may_move_references) ∷ []
@@ -119,14 +147,14 @@ memory_conditions p f slots here facts result (memory.Alloca held) =
     (K8, may_hold p.of_module slots result held) ∷ (K11, here.in_entry) ∷ (K12, here.may_move_references) ∷ []
 memory_conditions p f slots here facts result (memory.Load loaded place_type place) =
     (K1, is_available slots facts place)
-    ∷ (K2, is_typed p.of_module f place_type place && may_load p slots facts loaded place (place_known p.of_module facts place_type place))
+    ∷ (K2, (is_typed p.of_module f place_type place && may_load p slots facts loaded place (place_known p.of_module facts place_type place)) || loads_outside p.of_module f slots facts loaded place_type place)
     ∷ (K3, is_current facts (place_known p.of_module facts place_type place))
     ∷ (K4, is_based facts place (place_known p.of_module facts place_type place))
     ∷ (K12, here.may_move_references)
     ∷ (K19, casts_operand p.of_module place) ∷ []
 memory_conditions p f slots here facts result (memory.Store stored value place_type place) =
     (K1, is_available slots facts value && is_available slots facts place)
-    ∷ (K2, is_value p.of_module f slots facts stored value && is_typed p.of_module f place_type place && may_store p slots facts stored (known_of facts value) place (place_known p.of_module facts place_type place) && is_one_layout p facts stored (place_known p.of_module facts place_type place))
+    ∷ (K2, (is_value p.of_module f slots facts stored value && is_typed p.of_module f place_type place && may_store p slots facts stored (known_of facts value) place (place_known p.of_module facts place_type place) && is_one_layout p facts stored (place_known p.of_module facts place_type place)) || stores_outside p.of_module f slots facts stored value place_type place)
     ∷ (K3, is_current facts (known_of facts value) && is_current facts (place_known p.of_module facts place_type place))
     ∷ (K4, is_based facts place (place_known p.of_module facts place_type place))
     ∷ (K6, needs_no_barrier p.of_module slots facts stored place (place_known p.of_module facts place_type place))
@@ -140,11 +168,11 @@ element_conditions p f slots here facts x =
     (K1, is_available slots facts x.base && list_all (λ index. is_available slots facts index.operand) x.indices)
     ∷ (
       K2,
-      is_typed p.of_module f x.base_type x.base && is_pointer (kind_of p.of_module x.base_type) && may_be_base (known_of facts x.base)
+      ((is_typed p.of_module f x.base_type x.base && is_pointer (kind_of p.of_module x.base_type) && may_be_base (known_of facts x.base)) || is_outside_value p.of_module f slots facts x.base_type x.base)
           && are_indices p.of_module f slots facts x.indices && no_slots slots x.indices,
     )
     ∷ (K3, is_current facts (known_of facts x.base))
-    ∷ (K5, may_lead p facts x.source x.indices (known_of facts x.base))
+    ∷ (K5, may_lead p facts x.source x.indices (known_of facts x.base) || is_outside_value p.of_module f slots facts x.base_type x.base)
     ∷ (K10, is_no_slot slots x.base)
     ∷ (K12, here.may_move_references)
     ∷ (K19, casts_operand p.of_module x.base) ∷ []
@@ -153,10 +181,10 @@ element_conditions p f slots here facts x =
 abbrev pub cast_conditions : LaidOut → Function → SlotTable → InstrContext → FactSet → Cast → List (Rule × Bool)
 cast_conditions p f slots here facts x =
     (K1, is_available slots facts x.operand)
-    ∷ (K2, is_typed p.of_module f x.from x.operand)
+    ∷ (K2, is_typed p.of_module f x.from x.operand || is_outside_value p.of_module f slots facts x.from x.operand)
     ∷ (K3, is_current facts (known_of facts x.operand))
     ∷ (K12, here.may_move_references)
-    ∷ (K19, casts_operand p.of_module x.operand && may_cast p slots facts x.from x.to x.operand) ∷ []
+    ∷ (K19, casts_operand p.of_module x.operand && (may_cast p slots facts x.from x.to x.operand || casts_outside p.of_module f slots facts x.from x.to x.operand)) ∷ []
 
 -- of a select
 abbrev pub choice_conditions : LaidOut → Function → SlotTable → InstrContext → FactSet → Choice → List (Rule × Bool)
@@ -165,8 +193,9 @@ choice_conditions p f slots here facts x =
     ∷ (
       K2,
       is_condition p.of_module f slots facts x.condition_type x.condition
-          && is_value p.of_module f slots facts x.written x.chosen && is_value p.of_module f slots facts x.written x.other
-          && may_choose (kind_of p.of_module x.written) && one_layout (known_layout (known_of facts x.chosen)) (known_layout (known_of facts x.other))
+          && ((is_value p.of_module f slots facts x.written x.chosen && is_value p.of_module f slots facts x.written x.other
+          && may_choose (kind_of p.of_module x.written) && one_layout (known_layout (known_of facts x.chosen)) (known_layout (known_of facts x.other)))
+          || (is_outside_value p.of_module f slots facts x.written x.chosen && is_outside_value p.of_module f slots facts x.written x.other))
           && is_no_slot slots x.condition,
     )
     ∷ (K3, is_current facts (known_of facts x.chosen) && is_current facts (known_of facts x.other))
@@ -206,14 +235,14 @@ end_conditions p f slots here facts (end.Switch written value otherwise cases) =
     ∷ (K12, here.may_move_references) ∷ []
 end_conditions p f slots here facts end.Unreachable = (K12, here.may_move_references) ∷ []
 end_conditions p f slots here facts end.ReturnVoid =
-    (K2, is_void (kind_of p.of_module f.returned)) ∷ (K12, here.may_move_references) ∷ []
+    (K2, is_void (kind_of p.of_module f.returned)) ∷ (K12, here.may_move_references) ∷ (K14, says_what_it_is false here.promised) ∷ []
 end_conditions p f slots here facts (end.Return argument) =
     (K1, is_available slots facts argument.operand)
-    ∷ (K2, is_value p.of_module f slots facts argument.written argument.operand && (argument.written == f.returned))
+    ∷ (K2, is_passed p.of_module f slots facts argument.written argument.operand && (argument.written == f.returned))
     ∷ (K3, is_current facts (known_of facts argument.operand))
     ∷ (K10, is_no_slot slots argument.operand)
     ∷ (K12, here.may_move_references)
-    ∷ (K14, keeps_promise facts here.promised argument.operand) ∷ []
+    ∷ (K14, keeps_promise facts here.promised argument.operand && says_what_it_is (is_outside_value p.of_module f slots facts argument.written argument.operand) here.promised) ∷ []
 
 -- ---- what is known after an instruction
 
@@ -241,7 +270,7 @@ abbrev pub after_named : LaidOut → SlotTable → (v : ℕ) → Op → FactSet 
 after_named p slots v (op.Number x) facts = after_number p.of_module v x facts
 after_named p slots v (op.Element x) facts = after_element p v x.source x.base x.indices facts
 after_named p slots v (op.Cast x) facts = after_cast p.of_module slots v x.from x.to x.operand facts
-after_named p slots v (op.Choice x) facts = after_select v (kind_of p.of_module x.written) x.chosen x.other facts
+after_named p slots v (op.Choice x) facts = after_select p.of_module v (kind_of p.of_module x.written) x.chosen x.other facts
 after_named p slots v _ facts = facts
 
 -- by what the instruction does

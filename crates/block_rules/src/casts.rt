@@ -1,7 +1,7 @@
 ghost use Rattle.std.specs.Prelude.{◌≡◌, ◌&&◌, OnOk};
 ghost use Rattle.fact_tables.specs.Rows.{is_on, off_base};
 ghost use Rattle.block_rules.specs.FirstFailing.{first_failing};
-ghost use Rattle.block_rules.specs.Rules.{cast_conditions};
+ghost use Rattle.block_rules.specs.Rules.{casts_outside, cast_conditions};
 ghost use Rattle.type_kinds.specs.TypeKinds.{kind_of, is_bits};
 ghost use Rattle.block_rules.specs.Casts.{casts_null, casts_constant, casts_slot, casts_words, casts_base, casts_to, casts_global, casts_operand, casts_known, casts_other, may_cast, layout_of_null, cast_number, cast_constant, cast_local, after_cast};
 
@@ -9,7 +9,9 @@ use crate::conditions::first_failing;
 use crate::context::RuleContext;
 use crate::instr_context::InstrContext;
 use crate::numbers::{below_next, define_number};
-use crate::operands::{is_available, is_operand_current, is_typed, known_of};
+use crate::operands::{
+    is_available, is_operand_current, is_outside_value, is_typed, known_in, known_of,
+};
 use crate::places::define_held;
 use crate::rule::Rule;
 use facts::{Facts, Known};
@@ -19,6 +21,7 @@ use pools::{LayoutId, Layouts, WordSet};
 use shadow_stack::SlotId;
 use std::alloc::AllocError;
 use type_kinds::{TypeKind, layout_of_word, loads_words};
+use types::is_outside;
 
 fn casts_null(module: &Module, from: TypeId, to: TypeId) -> bool
     ensures { result ≡ casts_null «module».now from to }
@@ -75,13 +78,13 @@ fn casts_global(module: &Module, to: TypeId, symbol: SymbolId) -> bool
     }
 }
 
-/// Whether an operand is used at a type of its layout.
+/// Whether an operand is used at a type of its layout, and what is outside at any.
 pub fn casts_operand(module: &Module, operand: &Operand) -> bool
     ensures { result ≡ casts_operand «module».now operand.now }
 {
     match operand {
         Operand::CastGlobal { from, global, to } => {
-            *from == *to || casts_global(module, *to, *global)
+            *from == *to || casts_global(module, *to, *global) || is_outside(module, *global)
         }
         _ => true,
     }
@@ -252,10 +255,24 @@ pub fn after_cast(
             cast_local(facts, v, *u, &known, context.slots.slot_of(*u))
         }
         operand => {
-            let known = known_of(facts, operand);
+            let known = known_in(context.module(), facts, operand);
             facts.define(v, known)
         }
     }
+}
+
+/// Whether an address outside gets another pointer type.
+fn casts_outside(
+    context: &RuleContext,
+    facts: &Facts,
+    from: TypeId,
+    to: TypeId,
+    operand: &Operand,
+) -> bool
+    ensures { result ≡ casts_outside context.now.program.now.of_module context.now.function.now context.now.slots.now facts.now from to operand.now }
+{
+    is_outside_value(context, facts, from, operand)
+        && TypeKind::of(context.module(), to).is_pointer()
 }
 
 /// The rule that a bitcast breaks, if it breaks one.
@@ -270,13 +287,17 @@ pub fn cast_refusal(
     let Cast { from, operand, to } = cast;
     first_failing(&[
         (Rule::K1, is_available(context.slots, facts, operand)),
-        (Rule::K2, is_typed(context, *from, operand)),
+        (
+            Rule::K2,
+            is_typed(context, *from, operand) || is_outside_value(context, facts, *from, operand),
+        ),
         (Rule::K3, is_operand_current(facts, operand)),
         (Rule::K12, here.may_move_references),
         (
             Rule::K19,
             casts_operand(context.module(), operand)
-                && may_cast(context, facts, *from, *to, operand),
+                && (may_cast(context, facts, *from, *to, operand)
+                    || casts_outside(context, facts, *from, *to, operand)),
         ),
     ])
 }

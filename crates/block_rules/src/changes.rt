@@ -57,7 +57,14 @@ fn advance_named(
         Op::Cast(cast) => after_cast(context, facts, v, cast.from, cast.to, &cast.operand),
         Op::Choice(choice) => {
             let kind = TypeKind::of(context.module(), choice.written);
-            after_select(facts, v, kind, &choice.chosen, &choice.other)
+            after_select(
+                context.module(),
+                facts,
+                v,
+                kind,
+                &choice.chosen,
+                &choice.other,
+            )
         }
         Op::Memory(_) | Op::Call(_) => Ok(()),
     }

@@ -7,8 +7,11 @@ use crate::choices::is_condition;
 use crate::conditions::first_failing;
 use crate::context::RuleContext;
 use crate::instr_context::InstrContext;
-use crate::operands::{constant_fits, is_available, is_no_slot, is_operand_current, is_value};
-use crate::promises::keeps_promise;
+use crate::operands::{
+    constant_fits, is_available, is_no_slot, is_operand_current, is_outside_value, is_passed,
+    is_value,
+};
+use crate::promises::{keeps_promise, says_what_it_is};
 use crate::rule::Rule;
 use facts::Facts;
 use ir_ast::{Argument, BlockId, Case, End, Function, TypeId, ValueId};
@@ -104,17 +107,22 @@ fn return_refusal(
     ensures { result ≡ first_failing (end_conditions context.now.program.now context.now.function.now context.now.slots.now here facts.now (End.Return argument.now)) }
 {
     let operand = &argument.operand;
+    let outside = is_outside_value(context, facts, argument.written, operand);
     first_failing(&[
         (Rule::K1, is_available(context.slots, facts, operand)),
         (
             Rule::K2,
-            is_value(context, facts, argument.written, operand)
+            is_passed(context, facts, argument.written, operand)
                 && argument.written == context.function.returned,
         ),
         (Rule::K3, is_operand_current(facts, operand)),
         (Rule::K10, is_no_slot(context.slots, operand)),
         (Rule::K12, here.may_move_references),
-        (Rule::K14, keeps_promise(facts, here.promised, operand)),
+        (
+            Rule::K14,
+            keeps_promise(facts, here.promised, operand)
+                && says_what_it_is(outside, &here.promised),
+        ),
     ])
 }
 
@@ -163,6 +171,7 @@ pub fn end_refusal(
                 TypeKind::of(context.module(), context.function.returned).is_void(),
             ),
             (Rule::K12, here.may_move_references),
+            (Rule::K14, says_what_it_is(false, &here.promised)),
         ]),
         End::Return(argument) => return_refusal(context, here, facts, argument),
     }

@@ -38,7 +38,7 @@ pub use head::head_of;
 pub use instr_context::InstrContext;
 pub use may_move_references::keeps_shadow_stack;
 pub use numbers::below_next;
-pub use operands::known_of;
+pub use operands::{known_in, known_of};
 pub use promises::{given_by, own_mark, promised_in, promises_in};
 pub use refusals::refusal;
 pub use rule::Rule;

@@ -1,8 +1,10 @@
 //! Slots, and what is read from places and put there.
-ghost use Rattle.std.specs.Prelude.{◌≡◌, None, OnOk};
+ghost use Rattle.std.specs.Prelude.{◌≡◌, ◌&&◌, ◌||◌, None, OnOk};
 ghost use Rattle.facts.specs.Facts.{FactSet};
 ghost use Rattle.block_rules.specs.FirstFailing.{first_failing};
-ghost use Rattle.block_rules.specs.Rules.{names_root, gives_root, may_hold, memory_conditions, after_memory};
+ghost use Rattle.block_rules.specs.Rules.{names_root, gives_root, may_hold, is_datum, loads_outside, stores_outside, memory_conditions, after_memory};
+ghost use Rattle.block_rules.specs.Operands.{is_typed, is_value, known_of};
+ghost use Rattle.block_rules.specs.Places.{may_load, may_store, is_one_layout};
 
 use crate::barrier::needs_no_barrier;
 use crate::casts::casts_operand;
@@ -10,12 +12,12 @@ use crate::conditions::first_failing;
 use crate::context::RuleContext;
 use crate::instr_context::InstrContext;
 use crate::operands::{
-    is_available, is_based, is_current, is_no_slot, is_operand_current, is_typed, is_value,
-    known_of, place_known, slot_named,
+    is_available, is_based, is_current, is_no_slot, is_operand_current, is_outside_value, is_typed,
+    is_value, known_of, place_known, slot_named,
 };
 use crate::places::{after_load, after_store, is_one_layout, may_load, may_store};
 use crate::rule::Rule;
-use facts::Facts;
+use facts::{Facts, Known};
 use ir_ast::{Argument, MemoryOp, Operand, TypeId, ValueId};
 use shadow_stack::{SlotId, Slots};
 use std::alloc::AllocError;
@@ -61,6 +63,27 @@ fn alloca_refusal(
     ])
 }
 
+/// Whether a number or an address outside is read at a type of this kind.
+fn is_datum(kind: &TypeKind) -> bool
+    ensures { result ≡ is_datum kind.now }
+{
+    kind.is_integer() || kind.is_pointer()
+}
+
+/// Whether a load is from an address outside.
+fn loads_outside(
+    context: &RuleContext,
+    facts: &Facts,
+    loaded: TypeId,
+    place_type: TypeId,
+    place: &Operand,
+) -> bool
+    ensures { result ≡ loads_outside context.now.program.now.of_module context.now.function.now context.now.slots.now facts.now loaded place_type place.now }
+{
+    is_outside_value(context, facts, place_type, place)
+        && is_datum(&TypeKind::of(context.module(), loaded))
+}
+
 fn load_refusal(
     context: &RuleContext,
     here: InstrContext,
@@ -76,13 +99,42 @@ fn load_refusal(
         (Rule::K1, is_available(context.slots, facts, place)),
         (
             Rule::K2,
-            is_typed(context, place_type, place) && may_load(context, facts, loaded, place, &at),
+            (is_typed(context, place_type, place) && may_load(context, facts, loaded, place, &at))
+                || loads_outside(context, facts, loaded, place_type, place),
         ),
         (Rule::K3, is_current(facts, &at)),
         (Rule::K4, is_based(facts, place, &at)),
         (Rule::K12, here.may_move_references),
         (Rule::K19, casts_operand(context.module(), place)),
     ])
+}
+
+/// Whether a value may be stored at a place of the module, of which this is known.
+fn stores_inside(
+    context: &RuleContext,
+    facts: &Facts,
+    stored: &Argument,
+    place: &Argument,
+    at: &Known,
+) -> bool
+    ensures { result ≡ (is_value context.now.program.now.of_module context.now.function.now context.now.slots.now facts.now stored.now.written stored.now.operand && is_typed context.now.program.now.of_module context.now.function.now place.now.written place.now.operand && may_store context.now.program.now context.now.slots.now facts.now stored.now.written (known_of facts.now stored.now.operand) place.now.operand at.now && is_one_layout context.now.program.now facts.now stored.now.written at.now) }
+{
+    let known = known_of(facts, &stored.operand);
+    is_value(context, facts, stored.written, &stored.operand)
+        && is_typed(context, place.written, &place.operand)
+        && may_store(context, facts, stored.written, &known, &place.operand, at)
+        && is_one_layout(context, facts, stored.written, at)
+}
+
+/// Whether a number or an address outside, and no reference, is stored at an address outside.
+fn stores_outside(context: &RuleContext, facts: &Facts, stored: &Argument, place: &Argument) -> bool
+    ensures { result ≡ stores_outside context.now.program.now.of_module context.now.function.now context.now.slots.now facts.now stored.now.written stored.now.operand place.now.written place.now.operand }
+{
+    let value = &stored.operand;
+    is_outside_value(context, facts, place.written, &place.operand)
+        && ((TypeKind::of(context.module(), stored.written).is_integer()
+            && is_value(context, facts, stored.written, value))
+            || is_outside_value(context, facts, stored.written, value))
 }
 
 fn store_refusal(
@@ -96,7 +148,6 @@ fn store_refusal(
 {
     let value = &stored.operand;
     let to = &place.operand;
-    let known = known_of(facts, value);
     let at = place_known(context, facts, place.written, to);
     first_failing(&[
         (
@@ -105,10 +156,8 @@ fn store_refusal(
         ),
         (
             Rule::K2,
-            is_value(context, facts, stored.written, value)
-                && is_typed(context, place.written, to)
-                && may_store(context, facts, stored.written, &known, to, &at)
-                && is_one_layout(context, facts, stored.written, &at),
+            stores_inside(context, facts, stored, place, &at)
+                || stores_outside(context, facts, stored, place),
         ),
         (
             Rule::K3,

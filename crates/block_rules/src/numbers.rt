@@ -1,8 +1,11 @@
-ghost use Rattle.std.specs.Prelude.{◌≡◌, OnOk};
+ghost use Rattle.std.specs.Prelude.{◌≡◌, ◌&&◌, OnOk};
+ghost use Rattle.fact_tables.specs.Rows.{known_at};
+ghost use Rattle.type_kinds.specs.TypeKinds.{kind_of};
+ghost use Rattle.block_rules.specs.Operands.{is_value};
 ghost use Rattle.block_rules.specs.Bounds.{below_next};
 ghost use Rattle.block_rules.specs.FirstFailing.{first_failing};
-ghost use Rattle.block_rules.specs.Integers.{below_known, constant_below, below_of, smaller, weaker_bound, remainder_bound, arithmetic_below, define_number, changes_width, may_resize, resized_below, is_equality, may_compare, after_compare};
-ghost use Rattle.block_rules.specs.Rules.{number_conditions, after_number};
+ghost use Rattle.block_rules.specs.Integers.{below_known, constant_below, below_of, smaller, weaker_bound, remainder_bound, arithmetic_below, define_number, changes_width, may_resize, resized_below, is_equality, may_compare, after_constant, after_compare};
+ghost use Rattle.block_rules.specs.Rules.{compares_outside, number_conditions, after_number};
 ghost use Rattle.ir_ast.specs.declared.numbers.Arithmetic.{Arithmetic};
 
 use crate::conditions::first_failing;
@@ -10,11 +13,14 @@ use crate::context::RuleContext;
 use crate::floats::{float_kind, float_refusal};
 use crate::instr_context::InstrContext;
 use crate::operands::{
-    is_available, is_no_slot, is_operand_current, is_value, known_of, number_of,
+    is_available, is_no_slot, is_null, is_null_constant, is_number_known, is_operand_current,
+    is_outside_value, is_value, known_of, number_of,
 };
 use crate::rule::Rule;
 use facts::{Facts, Known, Test};
-use ir_ast::{Argument, Arithmetic, Comparison, NumberOp, Operand, Resize, TypeId, ValueId};
+use ir_ast::{
+    Argument, Arithmetic, Comparison, Constant, NumberOp, Operand, Resize, TypeId, ValueId,
+};
 use std::alloc::AllocError;
 use type_kinds::TypeKind;
 
@@ -198,14 +204,7 @@ fn compare_value(
     ensures { OnOk result (facts.new ≡ after_compare v kind (Operand.Local tested) second.now facts.old) }
 {
     match second {
-        Operand::Constant(constant) => facts.define_test(
-            v,
-            Test {
-                tested,
-                kind,
-                constant: *constant,
-            },
-        ),
+        Operand::Constant(constant) => compare_constant(facts, v, kind, tested, *constant),
         _ => facts.define(
             v,
             Known::Number {
@@ -213,6 +212,36 @@ fn compare_value(
                 below: None,
             },
         ),
+    }
+}
+
+/// Whether an address outside is null tells nothing.
+fn compare_constant(
+    facts: &mut Facts,
+    v: ValueId,
+    kind: Comparison,
+    tested: ValueId,
+    constant: Constant,
+) -> Result<(), AllocError>
+    ensures { OnOk result (facts.new ≡ after_constant v tested kind constant (known_at facts.old.values tested) facts.old) }
+{
+    if is_null_constant(constant) && is_number_known(&facts.known(tested)) {
+        facts.define(
+            v,
+            Known::Number {
+                bits: 1,
+                below: None,
+            },
+        )
+    } else {
+        facts.define_test(
+            v,
+            Test {
+                tested,
+                kind,
+                constant,
+            },
+        )
     }
 }
 
@@ -269,6 +298,35 @@ fn resize_refusal(
     ])
 }
 
+/// Whether two values of this type may be compared so.
+fn compares_values(
+    context: &RuleContext,
+    facts: &Facts,
+    kind: Comparison,
+    first: &Argument,
+    second: &Operand,
+) -> bool
+    ensures { result ≡ (is_value context.now.program.now.of_module context.now.function.now context.now.slots.now facts.now first.now.written first.now.operand && is_value context.now.program.now.of_module context.now.function.now context.now.slots.now facts.now first.now.written second.now && may_compare kind (kind_of context.now.program.now.of_module first.now.written)) }
+{
+    is_value(context, facts, first.written, &first.operand)
+        && is_value(context, facts, first.written, second)
+        && may_compare(kind, TypeKind::of(context.module(), first.written))
+}
+
+/// Whether addresses outside are compared, or one with null.
+fn compares_outside(
+    context: &RuleContext,
+    facts: &Facts,
+    first: &Argument,
+    second: &Operand,
+) -> bool
+    ensures { result ≡ compares_outside context.now.program.now.of_module context.now.function.now context.now.slots.now facts.now first.now.written first.now.operand second.now }
+{
+    (is_outside_value(context, facts, first.written, &first.operand)
+        && (is_outside_value(context, facts, first.written, second) || is_null(second)))
+        || (is_null(&first.operand) && is_outside_value(context, facts, first.written, second))
+}
+
 /// The second operand has the type that is written before the first one.
 fn compare_refusal(
     context: &RuleContext,
@@ -288,9 +346,8 @@ fn compare_refusal(
         ),
         (
             Rule::K2,
-            is_value(context, facts, first.written, &first.operand)
-                && is_value(context, facts, first.written, second)
-                && may_compare(kind, TypeKind::of(context.module(), first.written)),
+            compares_values(context, facts, kind, first, second)
+                || compares_outside(context, facts, first, second),
         ),
         (
             Rule::K3,

@@ -2,10 +2,12 @@ ghost use Rattle.std.specs.Prelude.{◌≡◌, OnOk, Some};
 ghost use Rattle.facts.specs.Facts.{drop_fresh_of};
 ghost use Rattle.block_rules.specs.Operands.{known_of};
 ghost use Rattle.type_kinds.specs.WantedWords.{holds_wanted, each_word, first_layout, layout_of_word, cell_words, loads_words, loads_word, wanted_by_store};
-ghost use Rattle.block_rules.specs.Places.{loads_slot, moves_kind, moves, loads_base, loads_known, may_load, is_one_layout, wanted_by_value, fits_words, stores_base, fits_word, stores_word, stores_known, stores_slot, may_store, define_held, load_kind, load_words, load_base, load_word, load_known, load_place, after_load, after_store};
+ghost use Rattle.block_rules.specs.Places.{loads_slot, moves_kind, moves, loads_base, loads_known, may_load, is_one_layout, wanted_by_value, fits_words, stores_base, fits_word, stores_word, stores_known, stores_slot, may_store, define_held, load_kind, define_given, load_words, load_base, load_word, load_known, load_place, after_load, after_store};
 
 use crate::context::RuleContext;
-use crate::operands::{is_null_constant, known_fits, known_of, place_known, slot_named};
+use crate::operands::{
+    is_null_constant, known_fits, known_of, outside_known, place_known, slot_named,
+};
 use facts::{Class, Facts, Known};
 use ir_ast::{Module, Operand, TypeId, ValueId};
 use layout::{Program, global_word};
@@ -264,6 +266,23 @@ fn load_kind(facts: &mut Facts, v: ValueId, s: SlotId, kind: TypeKind) -> Result
     }
 }
 
+/// A value is from outside: a number of its bits, or an address outside.
+pub fn define_given(facts: &mut Facts, v: ValueId, kind: TypeKind) -> Result<(), AllocError>
+    ensures { OnOk result (facts.new ≡ define_given v kind facts.old) }
+{
+    match kind {
+        TypeKind::Bits(bits) => facts.define(v, Known::Number { bits, below: None }),
+        kind => {
+            let known = if kind.is_pointer() {
+                outside_known()
+            } else {
+                Known::Nothing
+            };
+            facts.define(v, known)
+        }
+    }
+}
+
 fn load_words(
     layouts: &Layouts,
     facts: &mut Facts,
@@ -334,6 +353,7 @@ pub fn load_known(
         Known::GlobalAddress(symbol) => {
             load_word(facts, v, kind, global_word(program.module(), *symbol))
         }
+        Known::Number { .. } => define_given(facts, v, kind),
         _ => facts.define(v, Known::Nothing),
     }
 }

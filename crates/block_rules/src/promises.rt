@@ -2,12 +2,13 @@ ghost use Rattle.std.specs.Prelude.{◌≡◌};
 ghost use Rattle.std.specs.List.{list_all, zip};
 ghost use Rattle.std.specs.Option.{option_copied};
 ghost use Rattle.fact_tables.specs.Covers.{implied};
-ghost use Rattle.facts.specs.Claims.{is_below};
-ghost use Rattle.block_rules.specs.Promises.{promises_in, promised_in, own_mark, callee_mark, given_by, is_promised, keeps_promise, implies_promise, show_promises};
+ghost use Rattle.facts.specs.Claims.{is_below, promised_number};
+ghost use Rattle.block_rules.specs.Promises.{promises_in, promised_in, own_mark, callee_mark, given_by, is_promised, keeps_promise, says_what_it_is, say_what_they_are, implies_promise, show_promises};
 
 use crate::choices::{known_layout, one_layout};
+use crate::context::RuleContext;
 use crate::numbers::below_of;
-use crate::operands::{is_nonnull, known_of};
+use crate::operands::{is_nonnull, is_outside_value, known_of};
 use certs::{Mark, Promise, Section};
 use facts::{Facts, Given};
 use ir_ast::{Argument, Operand};
@@ -117,4 +118,53 @@ pub fn show_promises(facts: &Facts, arguments: &[Argument], promises: &[Option<P
         *promise,
         &argument.operand,
     ))
+}
+
+fn promised_number(promise: &Option<Promise>) -> bool
+    ensures { result ≡ promised_number promise.now }
+{
+    match promise {
+        Some(promise) => promise.number,
+        None => false,
+    }
+}
+
+/// Whether a number is promised of an address outside, and of nothing else.
+pub fn says_what_it_is(outside: bool, promise: &Option<Promise>) -> bool
+    ensures { result ≡ says_what_it_is outside promise.now }
+{
+    if promised_number(promise) {
+        outside
+    } else {
+        !outside
+    }
+}
+
+/// Whether this is so of each argument; where there is no promise there is none of a number.
+pub fn say_what_they_are(
+    context: &RuleContext,
+    facts: &Facts,
+    arguments: &[Argument],
+    promises: &[Option<Promise>],
+) -> bool
+    ensures { result ≡ say_what_they_are context.now.program.now.of_module context.now.function.now context.now.slots.now facts.now arguments.now promises.now }
+{
+    let mut rest = promises;
+    for argument in arguments {
+        let outside = is_outside_value(context, facts, argument.written, &argument.operand);
+        match rest {
+            [promise, others @ ..] => {
+                if !says_what_it_is(outside, promise) {
+                    return false;
+                }
+                rest = others;
+            }
+            [] => {
+                if outside {
+                    return false;
+                }
+            }
+        }
+    }
+    true
 }

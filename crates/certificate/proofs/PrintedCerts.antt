@@ -236,13 +236,14 @@ module _ (m : Module) (f : Function) (named : IsNamed m) (own : IsNamedFunction 
 
   result_begins : (p : Option Promise) (t : Text) → past_lines false t ≡ t → bytes_eq (word_at t) (codes "param") ≡ false → NoParameter (result_text m p ++ t)
   result_begins None t e other = (other, e)
-  result_begins (Some p) t e other = (ap (λ x. bytes_eq x (codes "param")) (word_on (codes "result") (promise_text m p ++ t) refl (promise_stops p.layout p.nonnull p.below t)), refl)
+  result_begins (Some p) t e other = (ap (λ x. bytes_eq x (codes "param")) (word_on (codes "result") (promise_text m p ++ t) refl (promise_stops p.layout p.nonnull p.below p.number t)), refl)
     where
-      promise_stops : (layout : Option ℕ) (nonnull : Bool) (n : Option ℕ) (t : Text) → stops (promise_text m (record { layout = layout; nonnull = nonnull; below = n }) ++ t) ≡ true
-      promise_stops None false None t = refl
-      promise_stops None false (Some n) t = refl
-      promise_stops None true n t = refl
-      promise_stops (Some l) nonnull n t = refl
+      promise_stops : (layout : Option ℕ) (nonnull : Bool) (n : Option ℕ) (number : Bool) (t : Text) → stops (promise_text m (record { layout = layout; nonnull = nonnull; below = n; number = number }) ++ t) ≡ true
+      promise_stops None false None false t = refl
+      promise_stops None false (Some n) false t = refl
+      promise_stops None true n false t = refl
+      promise_stops (Some l) nonnull n false t = refl
+      promise_stops layout nonnull n true t = refl
 
   blocks_word : (bs : List Block) (lists : List (List Claim)) (t : Text) → EndsBlocks t → (bytes_eq (word_at (blocks_text m f bs lists ++ t)) (codes "param") ≡ false) × (bytes_eq (word_at (blocks_text m f bs lists ++ t)) (codes "result") ≡ false)
   blocks_word [] lists t ends = (ap (λ x. bytes_eq x (codes "param")) ends.0, ap (λ x. bytes_eq x (codes "result")) ends.0)

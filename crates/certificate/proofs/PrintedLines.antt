@@ -1,11 +1,11 @@
 -- Printed lines are read as what they were printed for.
-use Rattle.std.proofs.Common.{◌≡◌, ℕ, Bool, true, false, ◌&&◌, List, [], ◌∷◌, ◌++◌, length, slice_get, codes, Option, Some, None, is_some, refl, ap, sym, subst, ◌∙◌, append_assoc}
+use Rattle.std.proofs.Common.{◌≡◌, ℕ, Bool, true, false, ◌&&◌, ◌||◌, List, [], ◌∷◌, ◌++◌, length, slice_get, codes, Option, Some, None, is_some, is_none, refl, ap, ap₂, sym, subst, ◌∙◌, inl, inr, ◌⊎◌, append_assoc}
 use Rattle.std.specs.Prelude.{◌==◌, if◌then◌else◌, unwrap_or}
 use Rattle.std.specs.List.{list_any}
 use Rattle.std.specs.Str.{bytes_eq}
 use Rattle.std.specs.Fmt.{decimal}
 use Rattle.std.proofs.lemmas.Bool.{eqb-true}
-use Rattle.lemmas.specs.Bools.{and_second, and_first}
+use Rattle.lemmas.specs.Bools.{and_second, and_first, and_parts, or_parts}
 use Rattle.ir_ast.specs.declared.function.Function.{Function}
 use Rattle.ir_ast.specs.declared.function.LocalSort.{LocalSort}
 use Rattle.ir_ast.specs.declared.function.LocalSort.TheVariants as local
@@ -17,15 +17,15 @@ use Rattle.name_text.specs.Words.{begins_with, past_blanks, past_lines, word_at,
 use Rattle.certs.specs.Fits.{small}
 use Rattle.certificate.specs.Numbers.{count_of_word, words_of_word}
 use Rattle.certificate.specs.Names.{value_of_word, global_of_word, layout_of_word}
-use Rattle.certs.specs.Families.{family_of_value, family_of_sort, is_reference, is_address, refers_to, same_bits}
+use Rattle.certs.specs.Families.{family_of_value, family_of_sort, is_reference, is_address, may_be_outside, refers_to, same_bits}
 use Rattle.certs.specs.RootNames.{root_names}
 use Rattle.certificate.specs.Drafts.{wanting, listing, listing_slot, is_in}
 use Rattle.certificate.specs.Input.{Input, wants, with_claim, with_slot_claim}
 use Rattle.name_text.specs.Reader.{recorded, left, word, begins, after, next_line}
 use Rattle.certificate.specs.Forms.{taken_if, flag, flag_by, count, word_set, age, age_by, age_of_word, free_by, new_value, new_value_named, new_slot, root_by, slot_named, want, listed_by, listed_name, layout_by, layout_name, put_value, put_slot}
 use Rattle.name_text.specs.Forms.{skip, taken, taken_as, expect, line_end}
-use Rattle.certificate.specs.Lines.{number_head, head_by, below_by, below, listed_if, listed_after, number, reference, words_of_cell, global_by, global_address, address_by, address, fact_by, fact_of, fact_end, slot_end, value_claim, slot_claim, line_by, line}
-use Rattle.certs.specs.Fits.{is_count, below_fits, stands_for, layout_fits, words_fit, fact_fits, is_value_sort, is_value, claim_fits, named_in_fact, named_in}
+use Rattle.certificate.specs.Lines.{number_head, bits_head, head_by, below_by, below, listed_if, listed_after, number, reference, words_of_cell, global_by, global_address, address_by, address, fact_by, fact_of, fact_end, slot_end, value_claim, slot_claim, line_by, line}
+use Rattle.certs.specs.Fits.{is_count, below_fits, stands_for, layout_fits, words_fit, is_outside_fact, fact_fits, is_value_sort, is_value, claim_fits, named_in_fact, named_in}
 use Rattle.certificate.specs.Named.{IsNamed, IsNamedFunction}
 use Rattle.certificate.specs.Print.{word_if, below_text, value_text, age_text, words_text, fact_text, claim_text, local_text, global_text, layout_text}
 use Rattle.name_text.specs.Seams.{past_word_on, word_on, blanks_on, all_bytes}
@@ -233,21 +233,22 @@ module _ (m : Module) (f : Function) (named : IsNamed m) (own : IsNamedFunction 
   abbrev FactOn : Input → Family → Fact → Text → Type 0
   FactOn i family fact t = (stops (fact_text m f fact ++ 10 ∷ t) ≡ true) × (n : ℕ) × (fact_of m f family).says (at i (past_blanks (fact_text m f fact ++ 10 ∷ t))) fact (at (noting (named_in_fact fact) n i) (10 ∷ t))
 
-  bits_head : (family : Family) (bits : ℕ) → is_some (same_bits family (small bits)) ≡ true → (is_some (small bits) ≡ true) × (number_head (same_bits family (Some bits)) ≡ head.Number bits)
-  bits_head family bits e = by (small bits) refl e
+  -- the bits of a number are no address outside
+  number_bits : (family : Family) (bits : ℕ) → is_some (same_bits family (Some bits)) ≡ true → bits_head m family (Some bits) ≡ head.Number bits
+  number_bits (fam.Number own) bits e = pick (own == bits) refl e
     where
-      head_is : (family : Family) → is_some (same_bits family (Some bits)) ≡ true → number_head (same_bits family (Some bits)) ≡ head.Number bits
-      head_is (fam.Number own) e = pick (own == bits) refl e
-        where
-          pick : (b : Bool) → own == bits ≡ b → is_some (if b then Some own else None) ≡ true → number_head (if b then Some own else None) ≡ head.Number bits
-          pick true is e = ap (λ x. head.Number x) (eqb-true own bits is)
-          pick false is e = absurd cc
-      head_is (fam.Reference l) e = absurd cc
-      head_is fam.AnyReference e = absurd cc
-      head_is fam.Address e = absurd cc
-      head_is fam.Opaque e = absurd cc
-      head_is fam.Nothing e = absurd cc
+      pick : (b : Bool) → own == bits ≡ b → is_some (if b then Some own else None) ≡ true → number_head (if b then Some own else None) ≡ head.Number bits
+      pick true is e = ap (λ x. head.Number x) (eqb-true own bits is)
+      pick false is e = absurd cc
+  number_bits (fam.Reference l) bits e = absurd cc
+  number_bits fam.AnyReference bits e = absurd cc
+  number_bits fam.Address bits e = absurd cc
+  number_bits fam.Opaque bits e = absurd cc
+  number_bits fam.Nothing bits e = absurd cc
 
+  bits_are : (family : Family) (bits : ℕ) → is_some (same_bits family (small bits)) ≡ true → (is_some (small bits) ≡ true) × (bits_head m family (Some bits) ≡ head.Number bits)
+  bits_are family bits e = by (small bits) refl e
+    where
       none : (family : Family) → is_some (same_bits family None) ≡ true → ⊥
       none (fam.Number own) e = cc
       none (fam.Reference l) e = cc
@@ -256,24 +257,23 @@ module _ (m : Module) (f : Function) (named : IsNamed m) (own : IsNamedFunction 
       none fam.Opaque e = cc
       none fam.Nothing e = cc
 
-      by : (x : Option ℕ) → small bits ≡ x → is_some (same_bits family x) ≡ true → (is_some x ≡ true) × (number_head (same_bits family (Some bits)) ≡ head.Number bits)
+      by : (x : Option ℕ) → small bits ≡ x → is_some (same_bits family x) ≡ true → (is_some x ≡ true) × (bits_head m family (Some bits) ≡ head.Number bits)
       by None is e = absurd (none family e)
       by (Some n) is e =
           let s = (small_is bits (ap is_some is)).0 in
-          (refl, head_is family (ap (λ y. is_some (same_bits family y)) (sym s ∙ is) ∙ e))
+          (refl, number_bits family bits (ap (λ y. is_some (same_bits family y)) (sym s ∙ is) ∙ e))
 
-  number_on : (i : Input) (family : Family) (bits : ℕ) (n : Option ℕ) (t : Text) → fact_fits m family (fact.Number bits n) ≡ true → FactOn i family (fact.Number bits n) t
+  own_number_on : (i : Input) (family : Family) (bits : ℕ) (n : Option ℕ) (t : Text) → is_some (same_bits family (small bits)) ≡ true → below_fits n ≡ true → FactOn i family (fact.Number bits n) t
   unfolding fact_of number
-  number_on i family bits n t e =
-      let h = bits_head family bits (and_first (is_some (same_bits family (small bits))) (below_fits n) e) in
-      let low = and_second (is_some (same_bits family (small bits))) (below_fits n) e in
+  own_number_on i family bits n t fits low =
+      let h = bits_are family bits fits in
       let r = bits_read bits h.0 in
       let w = 105 ∷ decimal bits in
       let end = below_text n ++ 10 ∷ t in
       let afterwards : ComesAfter end (past_blanks end) = (below_stops n, refl) in
       let text : past_blanks (fact_text m f (fact.Number bits n) ++ 10 ∷ t) ≡ w ++ end = ap (λ (x : Text). 105 ∷ x) (append_assoc (decimal bits) (below_text n) (10 ∷ t)) in
       let is : word (at i (w ++ end)) ≡ w = word_is i w end (past_blanks end) r.1 afterwards in
-      let kind : head_by family (word (at i (w ++ end))) ≡ head.Number bits = ap (head_by family) is ∙ ap (λ x. number_head (same_bits family x)) r.0 ∙ h.1 in (
+      let kind : head_by m family (word (at i (w ++ end))) ≡ head.Number bits = ap (head_by m family) is ∙ ap (bits_head m family) r.0 ∙ h.1 in (
         refl,
         0,
         subst (λ x. (fact_of m f family).says (at i x) (fact.Number bits n) (at i (10 ∷ t))) (sym text)
@@ -284,6 +284,37 @@ module _ (m : Module) (f : Function) (named : IsNamed m) (own : IsNamedFunction 
       below_stops : (n : Option ℕ) → stops (below_text n ++ 10 ∷ t) ≡ true
       below_stops None = refl
       below_stops (Some k) = refl
+
+  -- an address outside
+  outside_on : (i : Input) (family : Family) (t : Text) → may_be_outside m family ≡ true → FactOn i family (fact.Number 64 None) t
+  unfolding fact_of
+  outside_on i family t outside =
+      let w = 105 ∷ decimal 64 in
+      let r = bits_read 64 refl in
+      let is : word (at i (w ++ 10 ∷ t)) ≡ w = word_is i w (10 ∷ t) (10 ∷ t) r.1 (refl, refl) in
+      let kind : head_by m family (word (at i (w ++ 10 ∷ t))) ≡ head.Outside =
+      ap (head_by m family) is ∙ ap (bits_head m family) r.0 ∙ ap (λ (x : Bool). if x && true then head.Outside else number_head (same_bits family (Some 64))) outside in
+      let text : past_blanks (fact_text m f (fact.Number 64 None) ++ 10 ∷ t) ≡ w ++ 10 ∷ t = ap (λ (x : Text). 105 ∷ x) (append_assoc (decimal 64) [] (10 ∷ t)) in (
+        refl,
+        0,
+        subst (λ x. (fact_of m f family).says (at i x) (fact.Number 64 None) (at i (10 ∷ t))) (sym text)
+            (subst (λ x. (fact_by m f family x).says (at i (w ++ 10 ∷ t)) (fact.Number 64 None) (at i (10 ∷ t))) (sym kind) (taken_on (fact.Number 64 None) i w (10 ∷ t) (10 ∷ t) r.1 (refl, refl))),
+      )
+
+  number_on : (i : Input) (family : Family) (bits : ℕ) (n : Option ℕ) (t : Text) → fact_fits m family (fact.Number bits n) ≡ true → FactOn i family (fact.Number bits n) t
+  number_on i family bits n t e = by (or_parts (is_some (same_bits family (small bits)) && below_fits n) (is_outside_fact m family bits n) e)
+    where
+      none : (n : Option ℕ) → is_none n ≡ true → n ≡ None
+      none None e = refl
+      none (Some k) e = absurd cc
+
+      by : ((is_some (same_bits family (small bits)) && below_fits n) ≡ true) ⊎ (is_outside_fact m family bits n ≡ true) → FactOn i family (fact.Number bits n) t
+      by (inl own) = let both = and_parts (is_some (same_bits family (small bits))) (below_fits n) own in own_number_on i family bits n t both.0 both.1
+      by (inr outside) =
+          let both = and_parts (may_be_outside m family) ((bits == 64) && is_none n) outside in
+          let what = and_parts (bits == 64) (is_none n) both.1 in
+          let same : fact.Number 64 None ≡ fact.Number bits n = ap₂ (λ x y. fact.Number x y) (sym (eqb-true bits 64 what.0)) (sym (none n what.1)) in
+          subst (λ x. FactOn i family x t) same (outside_on i family t both.0)
 
   reference_on : (i : Input) (family : Family) (layout : ℕ) (nonnull : Bool) (how : Age) (same : Option ℕ) (t : Text) → fact_fits m family (fact.Reference layout nonnull how same) ≡ true → IsValue f same → FactOn i family (fact.Reference layout nonnull how same) t
   unfolding fact_of reference
@@ -298,8 +329,8 @@ module _ (m : Module) (f : Function) (named : IsNamed m) (own : IsNamedFunction 
       ∙ append_assoc (w ++ word_if nonnull (codes " nonnull")) (age_text how) (same_end same t)
       ∙ append_assoc w (word_if nonnull (codes " nonnull")) (age_end how same t)) in
       let first : ComesAfter (32 ∷ (w ++ a)) (w ++ a) = (refl, blanks_on w a p.1) in
-      let kind : head_by family (word (at i (codes "ref" ++ 32 ∷ (w ++ a)))) ≡ head.Reference =
-      ap (head_by family) (word_is i (codes "ref") (32 ∷ (w ++ a)) (w ++ a) refl first) ∙ ap (λ (x : Bool). if x then head.Reference else head.Other) refers in
+      let kind : head_by m family (word (at i (codes "ref" ++ 32 ∷ (w ++ a)))) ≡ head.Reference =
+      ap (head_by m family) (word_is i (codes "ref") (32 ∷ (w ++ a)) (w ++ a) refl first) ∙ ap (λ (x : Bool). if x then head.Reference else head.Other) refers in
       let last = optional_on i (codes "same") same t refl refl is in
       let out = at (noting same last.0 i) (10 ∷ t) in (
         refl,
@@ -341,8 +372,8 @@ module _ (m : Module) (f : Function) (named : IsNamed m) (own : IsNamedFunction 
       let one : fact_text m f (fact.Address base words) ++ 10 ∷ t ≡ codes " addr " ++ (w ++ a) =
       ap (λ (x : Text). codes " addr " ++ x) (append_assoc w (32 ∷ set) (10 ∷ t)) in
       let first : ComesAfter (32 ∷ (w ++ a)) (w ++ a) = (refl, blanks_on w a p.1) in
-      let kind : head_by family (word (at i (codes "addr" ++ 32 ∷ (w ++ a)))) ≡ head.Address =
-      ap (head_by family) (word_is i (codes "addr") (32 ∷ (w ++ a)) (w ++ a) refl first) ∙ ap (λ (x : Bool). if x then head.Address else head.Other) (and_first (is_address family) (words_fit words) e) in
+      let kind : head_by m family (word (at i (codes "addr" ++ 32 ∷ (w ++ a)))) ≡ head.Address =
+      ap (head_by m family) (word_is i (codes "addr") (32 ∷ (w ++ a)) (w ++ a) refl first) ∙ ap (λ (x : Bool). if x then head.Address else head.Other) (and_first (is_address family) (words_fit words) e) in
       let n = length (w ++ a) in
       let afterwards : ComesAfter a b = (refl, blanks_on set (10 ∷ t) r.1) in
       let other : begins_with 64 (word (at i (w ++ a))) ≡ false = ap (begins_with 64) (word_is i w a b p.1 afterwards) in
@@ -371,8 +402,8 @@ module _ (m : Module) (f : Function) (named : IsNamed m) (own : IsNamedFunction 
       let a = 10 ∷ t in
       let p = global_printed m symbol named (and_second (is_address family) (is_some (global_named m symbol)) e) in
       let first : ComesAfter (32 ∷ (w ++ a)) (w ++ a) = (refl, blanks_on w a p.1) in
-      let kind : head_by family (word (at i (codes "addr" ++ 32 ∷ (w ++ a)))) ≡ head.Address =
-      ap (head_by family) (word_is i (codes "addr") (32 ∷ (w ++ a)) (w ++ a) refl first) ∙ ap (λ (x : Bool). if x then head.Address else head.Other) (and_first (is_address family) (is_some (global_named m symbol)) e) in
+      let kind : head_by m family (word (at i (codes "addr" ++ 32 ∷ (w ++ a)))) ≡ head.Address =
+      ap (head_by m family) (word_is i (codes "addr") (32 ∷ (w ++ a)) (w ++ a) refl first) ∙ ap (λ (x : Bool). if x then head.Address else head.Other) (and_first (is_address family) (is_some (global_named m symbol)) e) in
       let is = word_is i w a a p.1 (refl, refl) in (
         refl,
         0,
@@ -516,12 +547,12 @@ module _ (m : Module) (f : Function) (named : IsNamed m) (own : IsNamedFunction 
   pub value_is : (value : ℕ) (said : Fact) → fact_fits m (family_of_value m f value) said ≡ true → is_value f value ≡ true
   value_is value said e = by (slice_get f.sorts value) refl e
     where
-      no_bits : (n : Option ℕ) (x : Option ℕ) → (is_some (same_bits fam.Nothing x) && below_fits n) ≡ true → ⊥
-      no_bits n None e = cc
-      no_bits n (Some k) e = cc
+      no_number : (n : Option ℕ) (x : Option ℕ) → ((is_some (same_bits fam.Nothing x) && below_fits n) || false) ≡ true → ⊥
+      no_number n None e = cc
+      no_number n (Some k) e = cc
 
       none : (said : Fact) → fact_fits m fam.Nothing said ≡ true → ⊥
-      none (fact.Number bits n) e = no_bits n (small bits) e
+      none (fact.Number bits n) e = no_number n (small bits) e
       none (fact.Reference layout nonnull how same) e = cc
       none (fact.Address base words) e = cc
       none (fact.GlobalAddress symbol) e = cc

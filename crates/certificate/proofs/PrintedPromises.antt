@@ -14,13 +14,13 @@ use Rattle.ir_ast.specs.declared.module.Module.{Module}
 use Rattle.ir_tokens.specs.Bytes.{Text}
 use Rattle.name_text.specs.Words.{past_blanks, past_lines, word_at, stops}
 use Rattle.certificate.specs.Names.{value_of_word}
-use Rattle.certs.specs.Families.{family_of_type, family_of_value, family_of_sort, is_reference, is_integer, refers_to}
+use Rattle.certs.specs.Families.{family_of_type, family_of_value, family_of_sort, is_reference, is_integer, may_be_outside, refers_to}
 use Rattle.certificate.specs.Input.{Input, with_promise}
 use Rattle.name_text.specs.Reader.{recorded, word}
 use Rattle.certificate.specs.Forms.{is_parameter, is_named, unpromised, parameter_by, parameter_named, new_parameter}
-use Rattle.certificate.specs.Lines.{no_promise, promised_by, promise_by, promised_fact, more_facts, promise}
+use Rattle.certificate.specs.Lines.{no_promise, promised_in, promise_by, promised_fact, more_facts, promise}
 use Rattle.certificate.specs.Text as text
-use Rattle.certs.specs.Fits.{is_count, stands_for, layout_fits, says_something, promised_layout_fits, promised_below_fits, promise_fits, promised_fits, is_value_sort, is_value}
+use Rattle.certs.specs.Fits.{is_count, stands_for, layout_fits, says_something, promised_layout_fits, promised_below_fits, promised_number_fits, promise_fits, promised_fits, is_value_sort, is_value}
 use Rattle.certificate.specs.Named.{IsNamed, IsNamedFunction}
 use Rattle.certificate.specs.Print.{local_text, layout_text, promise_text, parameter_text, result_text}
 use Rattle.name_text.specs.Seams.{blanks_on}
@@ -40,45 +40,55 @@ module _ (m : Module) (f : Function) (named : IsNamed m) (own : IsNamedFunction 
 
   -- `nonnull`, which is not promised so far
   null_fact : (i : Input) (family : Family) (layout : Option ℕ) (t : Text) → is_reference family ≡ true
-      → (promised_fact m family (record { layout = layout; nonnull = false; below = None })).says (at i (codes "nonnull" ++ 10 ∷ t)) (record { layout = layout; nonnull = true; below = None }) (at i (10 ∷ t))
+      → (promised_fact m family (record { layout = layout; nonnull = false; below = None; number = false })).says (at i (codes "nonnull" ++ 10 ∷ t)) (record { layout = layout; nonnull = true; below = None; number = false }) (at i (10 ∷ t))
   unfolding promised_fact
   null_fact i family layout t refers =
-      let p : Promise = record { layout = layout; nonnull = false; below = None } in
-      let q : Promise = record { layout = layout; nonnull = true; below = None } in
+      let p : Promise = record { layout = layout; nonnull = false; below = None; number = false } in
+      let q : Promise = record { layout = layout; nonnull = true; below = None; number = false } in
       let is = word_is i (codes "nonnull") (10 ∷ t) (10 ∷ t) refl (refl, refl) in
-      let kind : promised_by family p (word (at i (codes "nonnull" ++ 10 ∷ t))) ≡ promised.Nonnull = ap (promised_by family p) is ∙ ap (λ (x : Bool). if x then promised.Nonnull else promised.Other) refers in
+      let kind : promised_in m family p (word (at i (codes "nonnull" ++ 10 ∷ t))) ≡ promised.Nonnull = ap (promised_in m family p) is ∙ ap (λ (x : Bool). if x then promised.Nonnull else promised.Other) refers in
       subst (λ x. (promise_by m family p x).says (at i (codes "nonnull" ++ 10 ∷ t)) q (at i (10 ∷ t))) (sym kind) (taken_on q i (codes "nonnull") (10 ∷ t) (10 ∷ t) refl (refl, refl))
 
   -- a layout, with which the line begins
   layout_fact : (i : Input) (family : Family) (layout : ℕ) (t u : Text) → is_reference family ≡ true → layout_fits m family layout ≡ true → ComesAfter t u
-      → (promised_fact m family no_promise).says (at i (codes "ref" ++ 32 ∷ (layout_text m layout ++ t))) (record { layout = Some layout; nonnull = false; below = None }) (at i u)
+      → (promised_fact m family no_promise).says (at i (codes "ref" ++ 32 ∷ (layout_text m layout ++ t))) (record { layout = Some layout; nonnull = false; below = None; number = false }) (at i u)
   unfolding promised_fact
   layout_fact i family layout t u refers fits b =
       let w = layout_text m layout in
       let p = layout_printed m layout named (and_second (refers_to layout family) (list_any (stands_for layout) m.struct_of) fits) in
-      let q : Promise = record { layout = Some layout; nonnull = false; below = None } in
+      let q : Promise = record { layout = Some layout; nonnull = false; below = None; number = false } in
       let afterwards : ComesAfter (32 ∷ (w ++ t)) (w ++ t) = (refl, blanks_on w t p.1) in
       let is = word_is i (codes "ref") (32 ∷ (w ++ t)) (w ++ t) refl afterwards in
-      let kind : promised_by family no_promise (word (at i (codes "ref" ++ 32 ∷ (w ++ t)))) ≡ promised.Layout = ap (promised_by family no_promise) is ∙ ap (λ (x : Bool). if x then promised.Layout else promised.Other) refers in
+      let kind : promised_in m family no_promise (word (at i (codes "ref" ++ 32 ∷ (w ++ t)))) ≡ promised.Layout = ap (promised_in m family no_promise) is ∙ ap (λ (x : Bool). if x then promised.Layout else promised.Other) refers in
       subst (λ x. (promise_by m family no_promise x).says (at i (codes "ref" ++ 32 ∷ (w ++ t))) q (at i u)) (sym kind)
       (layout, at i u, (tt, at i (w ++ t), skip_on i (codes "ref") (32 ∷ (w ++ t)) (w ++ t) refl afterwards, layout_on m f named own i family layout t u fits b), (refl, refl))
 
   -- a bound, with which the line begins
   below_fact : (i : Input) (family : Family) (n : ℕ) (t : Text) → is_integer family ≡ true → is_count n ≡ true
-      → (promised_fact m family no_promise).says (at i (codes "below" ++ 32 ∷ (decimal n ++ 10 ∷ t))) (record { layout = None; nonnull = false; below = Some n }) (at i (10 ∷ t))
+      → (promised_fact m family no_promise).says (at i (codes "below" ++ 32 ∷ (decimal n ++ 10 ∷ t))) (record { layout = None; nonnull = false; below = Some n; number = false }) (at i (10 ∷ t))
   unfolding promised_fact
   below_fact i family n t integer fits =
-      let q : Promise = record { layout = None; nonnull = false; below = Some n } in
+      let q : Promise = record { layout = None; nonnull = false; below = Some n; number = false } in
       let end = decimal n ++ 10 ∷ t in
       let afterwards : ComesAfter (32 ∷ end) end = (refl, blanks_on (decimal n) (10 ∷ t) (count_read n fits).1) in
       let is = word_is i (codes "below") (32 ∷ end) end refl afterwards in
-      let kind : promised_by family no_promise (word (at i (codes "below" ++ 32 ∷ end))) ≡ promised.Below = ap (promised_by family no_promise) is ∙ ap (λ (x : Bool). if x then promised.Below else promised.Other) integer in
+      let kind : promised_in m family no_promise (word (at i (codes "below" ++ 32 ∷ end))) ≡ promised.Below = ap (promised_in m family no_promise) is ∙ ap (λ (x : Bool). if x then promised.Below else promised.Other) integer in
       subst (λ x. (promise_by m family no_promise x).says (at i (codes "below" ++ 32 ∷ end)) q (at i (10 ∷ t))) (sym kind)
       (n, at i (10 ∷ t), (tt, at i end, skip_on i (codes "below") (32 ∷ end) end refl afterwards, count_on i n (10 ∷ t) (10 ∷ t) fits (refl, refl)), (refl, refl))
 
+  -- an address outside, with which the line begins
+  number_fact : (i : Input) (family : Family) (t : Text) → may_be_outside m family ≡ true
+      → (promised_fact m family no_promise).says (at i (codes "i64" ++ 10 ∷ t)) (record { layout = None; nonnull = false; below = None; number = true }) (at i (10 ∷ t))
+  unfolding promised_fact
+  number_fact i family t outside =
+      let q : Promise = record { layout = None; nonnull = false; below = None; number = true } in
+      let is = word_is i (codes "i64") (10 ∷ t) (10 ∷ t) refl (refl, refl) in
+      let kind : promised_in m family no_promise (word (at i (codes "i64" ++ 10 ∷ t))) ≡ promised.Number = ap (promised_in m family no_promise) is ∙ ap (λ (x : Bool). if x && true then promised.Number else promised.Other) outside in
+      subst (λ x. (promise_by m family no_promise x).says (at i (codes "i64" ++ 10 ∷ t)) q (at i (10 ∷ t))) (sym kind) (taken_on q i (codes "i64") (10 ∷ t) (10 ∷ t) refl (refl, refl))
+
   -- the word is `nonnull`, so that the line goes on
   null_more : (i : Input) (family : Family) (layout : Option ℕ) (t : Text) → is_reference family ≡ true
-      → (more_facts m family (record { layout = layout; nonnull = false; below = None })).says (at i (codes "nonnull" ++ 10 ∷ t)) (record { layout = layout; nonnull = true; below = None }) (at i (10 ∷ t))
+      → (more_facts m family (record { layout = layout; nonnull = false; below = None; number = false })).says (at i (codes "nonnull" ++ 10 ∷ t)) (record { layout = layout; nonnull = true; below = None; number = false }) (at i (10 ∷ t))
   unfolding more_facts
   null_more i family layout t refers = null_fact i family layout t refers
 
@@ -95,13 +105,13 @@ module _ (m : Module) (f : Function) (named : IsNamed m) (own : IsNamedFunction 
   PromiseOn i family p t u = (stops (promise_text m p ++ t) ≡ true) × (promise m family).says (at i (past_blanks (promise_text m p ++ t))) p (at i u)
 
   parts_on : (i : Input) (family : Family) (layout : Option ℕ) (nonnull : Bool) (n : Option ℕ) (t u : Text)
-      → says_something (record { layout = layout; nonnull = nonnull; below = n }) ≡ true → promised_layout_fits m family layout ≡ true → (not nonnull || is_reference family) ≡ true → promised_below_fits family n ≡ true
-      → past_lines false t ≡ u → PromiseOn i family (record { layout = layout; nonnull = nonnull; below = n }) t u
+      → says_something (record { layout = layout; nonnull = nonnull; below = n; number = false }) ≡ true → promised_layout_fits m family layout ≡ true → (not nonnull || is_reference family) ≡ true → promised_below_fits family n ≡ true
+      → past_lines false t ≡ u → PromiseOn i family (record { layout = layout; nonnull = nonnull; below = n; number = false }) t u
   unfolding promise
   parts_on i family (Some l) false None t u some fits null low e =
       let w = layout_text m l in
       let refers = refers_is family l (and_first (refers_to l family) (list_any (stands_for l) m.struct_of) fits) in
-      let p : Promise = record { layout = Some l; nonnull = false; below = None } in
+      let p : Promise = record { layout = Some l; nonnull = false; below = None; number = false } in
       let text : promise_text m p ++ t ≡ codes " ref " ++ (w ++ 10 ∷ t) = ap (λ (x : Text). codes " ref " ++ x) (ap (λ (x : Text). x ++ t) (end_only w) ∙ append_assoc w (10 ∷ []) t) in (
         refl,
         subst (λ x. (promise m family).says (at i (past_blanks x)) p (at i u)) (sym text) (
@@ -118,8 +128,8 @@ module _ (m : Module) (f : Function) (named : IsNamed m) (own : IsNamedFunction 
   parts_on i family (Some l) true None t u some fits null low e =
       let w = layout_text m l in
       let refers = refers_is family l (and_first (refers_to l family) (list_any (stands_for l) m.struct_of) fits) in
-      let one : Promise = record { layout = Some l; nonnull = false; below = None } in
-      let p : Promise = record { layout = Some l; nonnull = true; below = None } in
+      let one : Promise = record { layout = Some l; nonnull = false; below = None; number = false } in
+      let p : Promise = record { layout = Some l; nonnull = true; below = None; number = false } in
       let a = codes " nonnull" ++ 10 ∷ t in
       let b = codes "nonnull" ++ 10 ∷ t in
       let text : promise_text m p ++ t ≡ codes " ref " ++ (w ++ a) = ap (λ (x : Text). codes " ref " ++ x) (ap (λ (x : Text). x ++ t) (null_only w) ∙ append_assoc w (codes " nonnull" ++ 10 ∷ []) t) in (
@@ -136,7 +146,7 @@ module _ (m : Module) (f : Function) (named : IsNamed m) (own : IsNamedFunction 
       null_only [] = refl
       null_only (b ∷ w) = ap (λ (x : Text). b ∷ x) (null_only w)
   parts_on i family None true None t u some fits null low e =
-      let p : Promise = record { layout = None; nonnull = true; below = None } in (
+      let p : Promise = record { layout = None; nonnull = true; below = None; number = false } in (
         refl,
         (
           p,
@@ -146,7 +156,7 @@ module _ (m : Module) (f : Function) (named : IsNamed m) (own : IsNamedFunction 
         ),
       )
   parts_on i family None false (Some n) t u some fits null low e =
-      let p : Promise = record { layout = None; nonnull = false; below = Some n } in
+      let p : Promise = record { layout = None; nonnull = false; below = Some n; number = false } in
       let text : promise_text m p ++ t ≡ codes " below " ++ (decimal n ++ 10 ∷ t) = ap (λ (x : Text). codes " below " ++ x) (append_assoc (decimal n) (10 ∷ []) t) in (
         refl,
         subst (λ x. (promise m family).says (at i (past_blanks x)) p (at i u)) (sym text) (
@@ -161,16 +171,47 @@ module _ (m : Module) (f : Function) (named : IsNamed m) (own : IsNamedFunction 
   parts_on i family (Some l) nonnull (Some n) t u some fits null low e =
       absurd (not_both family (refers_is family l (and_first (refers_to l family) (list_any (stands_for l) m.struct_of) fits)) (and_first (is_integer family) (is_count n) low))
 
+  -- an address outside, of which nothing else is promised
+  number_on : (i : Input) (family : Family) (layout : Option ℕ) (nonnull : Bool) (n : Option ℕ) (t u : Text) → promised_number_fits m family (record { layout = layout; nonnull = nonnull; below = n; number = true }) ≡ true
+      → past_lines false t ≡ u → PromiseOn i family (record { layout = layout; nonnull = nonnull; below = n; number = true }) t u
+  unfolding promise
+  number_on i family None false None t u fits e =
+      let p : Promise = record { layout = None; nonnull = false; below = None; number = true } in (
+        refl,
+        (
+          p,
+          at i (10 ∷ t),
+          number_fact i family t (and_first (may_be_outside m family) true fits),
+          (p, at i (10 ∷ t), no_more i family p t, (p, at i (10 ∷ t), no_more i family p t, (p, at i (10 ∷ t), no_more i family p t, (tt, at i u, line_end_on i t u e, (refl, refl))))),
+        ),
+      )
+  number_on i family None false (Some n) t u fits e = let no : false ≡ true = and_second (may_be_outside m family) false fits in absurd cc
+  number_on i family None true n t u fits e = let no : false ≡ true = and_second (may_be_outside m family) false fits in absurd cc
+  number_on i family (Some l) nonnull n t u fits e = let no : false ≡ true = and_second (may_be_outside m family) false fits in absurd cc
+
   pub promise_on : (i : Input) (family : Family) (p : Promise) (t u : Text) → promise_fits m family p ≡ true → past_lines false t ≡ u → PromiseOn i family p t u
-  promise_on i family p t u e lines = parts (says_something p) (promised_layout_fits m family p.layout) (not p.nonnull || is_reference family) (promised_below_fits family p.below) e
-      (λ a b c d. parts_on i family p.layout p.nonnull p.below t u a b c d lines)
+  promise_on i family p t u e lines = by p.layout p.nonnull p.below p.number e
     where
-      parts : (a b c d : Bool) → (a && b && c && d) ≡ true → (a ≡ true → b ≡ true → c ≡ true → d ≡ true → PromiseOn i family p t u) → PromiseOn i family p t u
-      parts true true true true e on = on refl refl refl refl
-      parts false b c d e on = absurd cc
-      parts true false c d e on = absurd cc
-      parts true true false d e on = absurd cc
-      parts true true true false e on = absurd cc
+      parts : (a b c d : Bool) → (a && true && b && c && d) ≡ true → (a ≡ true) × (b ≡ true) × (c ≡ true) × (d ≡ true)
+      parts true true true true e = (refl, refl, refl, refl)
+      parts false b c d e = absurd cc
+      parts true false c d e = absurd cc
+      parts true true false d e = absurd cc
+      parts true true true false e = absurd cc
+
+      second : (a b c d x : Bool) → (a && x && b && c && d) ≡ true → x ≡ true
+      second true b c d true e = refl
+      second true b c d false e = absurd cc
+      second false b c d x e = absurd cc
+
+      by : (layout : Option ℕ) (nonnull : Bool) (n : Option ℕ) (number : Bool) → promise_fits m family (record { layout = layout; nonnull = nonnull; below = n; number = number }) ≡ true → PromiseOn i family (record { layout = layout; nonnull = nonnull; below = n; number = number }) t u
+      by layout nonnull n true e =
+          let p : Promise = record { layout = layout; nonnull = nonnull; below = n; number = true } in
+          number_on i family layout nonnull n t u (second (says_something p) (promised_layout_fits m family layout) (not nonnull || is_reference family) (promised_below_fits family n) (promised_number_fits m family p) e) lines
+      by layout nonnull n false e =
+          let p : Promise = record { layout = layout; nonnull = nonnull; below = n; number = false } in
+          let all = parts (says_something p) (promised_layout_fits m family layout) (not nonnull || is_reference family) (promised_below_fits family n) e in
+          parts_on i family layout nonnull n t u all.0 all.1 all.2 all.3 lines
 
   -- ---- parameters and the result
 
@@ -178,15 +219,20 @@ module _ (m : Module) (f : Function) (named : IsNamed m) (own : IsNamedFunction 
   value_is : (value : ℕ) (p : Promise) → promise_fits m (family_of_value m f value) p ≡ true → is_value f value ≡ true
   value_is value p e = by (slice_get f.sorts value) e
     where
-      nothing : (layout : Option ℕ) (nonnull : Bool) (n : Option ℕ) → promise_fits m fam.Nothing (record { layout = layout; nonnull = nonnull; below = n }) ≡ true → ⊥
-      nothing None false None e = cc
-      nothing None false (Some n) e = cc
-      nothing None true n e = cc
-      nothing (Some l) false n e = cc
-      nothing (Some l) true n e = cc
+      nothing : (layout : Option ℕ) (nonnull : Bool) (n : Option ℕ) (number : Bool) → promise_fits m fam.Nothing (record { layout = layout; nonnull = nonnull; below = n; number = number }) ≡ true → ⊥
+      nothing None false None false e = cc
+      nothing None false (Some n) false e = cc
+      nothing None true n false e = cc
+      nothing (Some l) false n false e = cc
+      nothing (Some l) true n false e = cc
+      nothing None false None true e = cc
+      nothing None false (Some n) true e = cc
+      nothing None true n true e = cc
+      nothing (Some l) false n true e = cc
+      nothing (Some l) true n true e = cc
 
       none : promise_fits m fam.Nothing p ≡ true → ⊥
-      none e = nothing p.layout p.nonnull p.below e
+      none e = nothing p.layout p.nonnull p.below p.number e
 
       by : (s : Option LocalSort) → promise_fits m (family_of_sort m f s) p ≡ true → is_value_sort s ≡ true
       by (Some (local.Value written)) e = refl

@@ -5,7 +5,7 @@ use Rattle.std.specs.List.{list_all, zip}
 use Rattle.std.specs.Str.{bytes_eq}
 use Rattle.std.proofs.lemmas.Bool.{eqb-true, eq-eqb}
 use Rattle.std.proofs.lemmas.List.{length-set}
-use Rattle.lemmas.specs.Bools.{and_true}
+use Rattle.lemmas.specs.Bools.{and_true, or_first, or_second}
 use Rattle.grammar.specs.Many.{Listed}
 use Rattle.ir_ast.specs.declared.function.Function.{Function}
 use Rattle.ir_ast.specs.declared.module.Module.{Module}
@@ -15,16 +15,17 @@ use Rattle.certs.specs.Fits.{small}
 use Rattle.certificate.specs.Numbers.{bits_of_word}
 use Rattle.certificate.specs.Names as names
 use Rattle.certificate.specs.Names.{global_of_word, value_of_word}
-use Rattle.certs.specs.Families.{family_of_type, family_of_value, is_reference, is_integer, is_address, same_bits}
+use Rattle.certs.specs.Families.{family_of_type, family_of_value, is_reference, is_integer, is_address, may_be_outside, same_bits}
 use Rattle.certs.specs.RootNames.{root_names}
 use Rattle.certificate.specs.Drafts.{wanting, listing, listing_slot, block_ended, is_in, first_unlisted}
 use Rattle.certificate.specs.Input.{Input, begun, with_promise, wants, with_claim, with_slot_claim, with_block, with_section, kept}
+use Rattle.name_text.specs.Forms.{taken}
 use Rattle.name_text.specs.Reader.{recorded, left, ended, word, begins, line_ends}
 use Rattle.certificate.specs.Forms.{free_by, new_function, function_named, function_by, new_parameter, is_parameter, unpromised, parameter_by, parameter_named, new_block, block_by, block_named, new_value, new_value_named, new_slot, root_by, slot_named, want, listed_by, listed_name, begin, put_value, put_slot}
-use Rattle.certificate.specs.Lines.{no_promise, fact_if, promised_by, promise_by, promised_fact, more_by, more_facts, promise, number_head, head_by, below_by, below, listed_if, listed_after, number, reference, words_of_cell, global_by, global_address, address_by, address, fact_by, fact_of, fact_end, slot_end, value_claim, slot_claim, line_by, line}
+use Rattle.certificate.specs.Lines.{no_promise, fact_if, promised_by, may_stand_alone, promised_in, promise_by, promised_fact, more_by, more_facts, promise, number_head, has_bits, bits_head, head_by, below_by, below, listed_if, listed_after, number, reference, words_of_cell, global_by, global_address, address_by, address, fact_by, fact_of, fact_end, slot_end, value_claim, slot_claim, line_by, line}
 use Rattle.certificate.specs.Text as text
 use Rattle.certificate.specs.Text.{first_gap, gap_in, gap_or, sections_in, finished_by}
-use Rattle.certs.specs.Fits.{below_fits, says_something, promised_layout_fits, promised_below_fits, promise_fits, promised_fits, fact_fits, is_value, named_in_fact, section_fits, fits}
+use Rattle.certs.specs.Fits.{below_fits, is_outside_fact, says_something, promised_layout_fits, promised_below_fits, promised_number_fits, promise_fits, promised_fits, fact_fits, is_value, named_in_fact, section_fits, fits}
 use Rattle.certificate.proofs.Between.{all_set_zip, Between, Within, is_wanted, last_wanted, at_start, with_parameter, block_begins, block_ends, with_wanted, with_value, with_slot}
 use Rattle.certificate.specs.declared.draft.SectionDraft.{SectionDraft}
 use Rattle.certs.specs.declared.family.Family.{Family}
@@ -49,20 +50,21 @@ use Rattle.certificate.proofs.ReadWords.{still, Still, still_skip, still_taken, 
 
 -- what is promised so far fits
 abbrev Parts : Module → Family → Promise → Type 0
-Parts m family p = (promised_layout_fits m family p.layout ≡ true) × ((not p.nonnull || is_reference family) ≡ true) × (promised_below_fits family p.below ≡ true)
+Parts m family p = (promised_layout_fits m family p.layout ≡ true) × ((not p.nonnull || is_reference family) ≡ true) × (promised_below_fits family p.below ≡ true) × (promised_number_fits m family p ≡ true)
 
 -- and something is promised
 abbrev Whole : Module → Family → Promise → Type 0
 Whole m family p = Parts m family p × (says_something p ≡ true)
 
-or_last : (a b : Bool) → (a || b || true) ≡ true
-or_last true b = refl
-or_last false true = refl
-or_last false false = refl
+-- where one thing is promised, something is
+some_null : (a c d : Bool) → (a || true || c || d) ≡ true
+some_null true c d = refl
+some_null false c d = refl
 
-or_middle : (a b : Bool) → (a || true || b) ≡ true
-or_middle true b = refl
-or_middle false b = refl
+some_below : (a b d : Bool) → (a || b || true || d) ≡ true
+some_below true b d = refl
+some_below false true d = refl
+some_below false false d = refl
 
 -- which word gives which fact
 given_by : (given fits : Bool) (x : Promised) → fact_if given fits x ≡ promised.Nonnull → (x ≡ promised.Nonnull) × (fits ≡ true)
@@ -89,21 +91,76 @@ below_may family p false true c e = let q = (below_given_by p.nonnull (is_refere
 below_may family p false false true e = (below_given_by (is_some p.below) (is_integer family) promised.Below e).1
 below_may family p false false false e = absurd cc
 
+-- the word of something that may stand beside others
+abbrev is_plain : Promised → Bool
+is_plain promised.Layout = true
+is_plain promised.Nonnull = true
+is_plain promised.Below = true
+is_plain promised.Number = false
+is_plain promised.Again = false
+is_plain promised.Other = false
+
+-- so it is where no address outside is promised
+plain_word : (w given may : Bool) (what k : Promised) → is_plain k ≡ true → (if w then fact_if given may promised.Number else (if given then promised.Other else what)) ≡ k → (given ≡ false) × (what ≡ k)
+plain_word true true may what k plain e = let q : is_plain promised.Again ≡ true = ap is_plain e ∙ plain in absurd cc
+plain_word true false true what k plain e = let q : is_plain promised.Number ≡ true = ap is_plain e ∙ plain in absurd cc
+plain_word true false false what k plain e = let q : is_plain promised.Other ≡ true = ap is_plain e ∙ plain in absurd cc
+plain_word false true may what k plain e = let q : is_plain promised.Other ≡ true = ap is_plain e ∙ plain in absurd cc
+plain_word false false may what k plain e = (refl, e)
+
+-- the word of an address outside stands where it may stand alone
+never_by : (given may : Bool) (x : Promised) → fact_if given may x ≡ promised.Number → x ≡ promised.Number
+never_by true may x e = absurd cc
+never_by false true x e = e
+never_by false false x e = absurd cc
+
+never_number : (family : Family) (p : Promise) (a b c : Bool)
+    → (if a then fact_if (is_some p.layout) (is_reference family) promised.Layout else (if b then fact_if p.nonnull (is_reference family) promised.Nonnull else (if c then fact_if (is_some p.below) (is_integer family) promised.Below else promised.Other))) ≡ promised.Number → ⊥
+never_number family p true b c e = let q = never_by (is_some p.layout) (is_reference family) promised.Layout e in cc
+never_number family p false true c e = let q = never_by p.nonnull (is_reference family) promised.Nonnull e in cc
+never_number family p false false true e = let q = never_by (is_some p.below) (is_integer family) promised.Below e in cc
+never_number family p false false false e = cc
+
+number_word : (w given may : Bool) (what : Promised) → (what ≡ promised.Number → ⊥) → (if w then fact_if given may promised.Number else (if given then promised.Other else what)) ≡ promised.Number → may ≡ true
+number_word true true may what never e = absurd cc
+number_word true false true what never e = refl
+number_word true false false what never e = absurd cc
+number_word false true may what never e = absurd cc
+number_word false false may what never e = absurd (never e)
+
+-- what is promised beside no address outside fits with that
+beside : (a b : Bool) → a ≡ false → (not a || b) ≡ true
+beside a b e = or_first (not a) b (ap not e)
+
 promised_fact_is : (m : Module) (family : Family) (p : Promise) (i : Input) (q : Promise) (o : Input) → Parts m family p → (promised_fact m family p).says i q o → Whole m family q × (still i ≡ still o)
 unfolding promised_fact
-promised_fact_is m family p i q o parts h = by (promised_by family p (word i)) refl h
+promised_fact_is m family p i q o parts h = by (promised_in m family p (word i)) refl h
   where
-    by : (k : Promised) → promised_by family p (word i) ≡ k → (promise_by m family p k).says i q o → Whole m family q × (still i ≡ still o)
+    plain : (k : Promised) → is_plain k ≡ true → promised_in m family p (word i) ≡ k → (p.number ≡ false) × (promised_by family p (word i) ≡ k)
+    plain k = plain_word (bytes_eq (word i) (codes "i64")) p.number (may_stand_alone m family p) (promised_by family p (word i)) k
+
+    by : (k : Promised) → promised_in m family p (word i) ≡ k → (promise_by m family p k).says i q o → Whole m family q × (still i ≡ still o)
     by promised.Layout is h =
         let l = layout_name_is m family h.2.1 h.0 h.1 h.2.3 in
-        (subst (Whole m family) h.3.0 ((l.0, parts.1, parts.2), refl), still_skip i h.2.0 h.2.1 h.2.2 ∙ l.1 ∙ ap still h.3.1)
+        let other = plain promised.Layout refl is in
+        let new : Promise = record p { layout = Some h.0 } in
+        (subst (Whole m family) h.3.0 ((l.0, parts.1, parts.2, beside p.number (may_stand_alone m family new) other.0), refl), still_skip i h.2.0 h.2.1 h.2.2 ∙ l.1 ∙ ap still h.3.1)
     by promised.Nonnull is h =
-        let fits = nonnull_fits family p (bytes_eq (word i) (codes "ref")) (bytes_eq (word i) (codes "nonnull")) (bytes_eq (word i) (codes "below")) is in
-        (subst (Whole m family) (taken_is (record p { nonnull = true }) i q o h) ((parts.0, fits, parts.2), or_middle (is_some p.layout) (is_some p.below)), still_taken (record p { nonnull = true }) i q o h)
+        let other = plain promised.Nonnull refl is in
+        let fits = nonnull_fits family p (bytes_eq (word i) (codes "ref")) (bytes_eq (word i) (codes "nonnull")) (bytes_eq (word i) (codes "below")) other.1 in
+        let new : Promise = record p { nonnull = true } in
+        (subst (Whole m family) (taken_is new i q o h) ((parts.0, fits, parts.2, beside p.number (may_stand_alone m family new) other.0), some_null (is_some p.layout) (is_some p.below) p.number), still_taken (record p { nonnull = true }) i q o h)
     by promised.Below is h =
-        let fits = below_may family p (bytes_eq (word i) (codes "ref")) (bytes_eq (word i) (codes "nonnull")) (bytes_eq (word i) (codes "below")) is in
+        let other = plain promised.Below refl is in
+        let fits = below_may family p (bytes_eq (word i) (codes "ref")) (bytes_eq (word i) (codes "nonnull")) (bytes_eq (word i) (codes "below")) other.1 in
         let n = count_is h.2.1 h.0 h.1 h.2.3 in
-        (subst (Whole m family) h.3.0 ((parts.0, parts.1, rw (fits, n.0) refl), or_last (is_some p.layout) p.nonnull), still_skip i h.2.0 h.2.1 h.2.2 ∙ n.1 ∙ ap still h.3.1)
+        let new : Promise = record p { below = Some h.0 } in
+        (subst (Whole m family) h.3.0 ((parts.0, parts.1, rw (fits, n.0) refl, beside p.number (may_stand_alone m family new) other.0), some_below (is_some p.layout) p.nonnull p.number), still_skip i h.2.0 h.2.1 h.2.2 ∙ n.1 ∙ ap still h.3.1)
+    by promised.Number is h =
+        let never = never_number family p (bytes_eq (word i) (codes "ref")) (bytes_eq (word i) (codes "nonnull")) (bytes_eq (word i) (codes "below")) in
+        let alone = number_word (bytes_eq (word i) (codes "i64")) p.number (may_stand_alone m family p) (promised_by family p (word i)) never is in
+        let new : Promise = record p { number = true } in
+        (subst (Whole m family) (taken_is new i q o h) ((parts.0, parts.1, parts.2, alone), or_second (is_some p.layout || p.nonnull || is_some p.below) true refl), still_taken new i q o h)
     by promised.Again is h = absurd h
     by promised.Other is h = absurd h
 
@@ -116,12 +173,12 @@ more_facts_is m family p i q o whole h = by (line_ends i) h
     by false h = promised_fact_is m family p i q o whole.0 h
 
 whole_fits : (m : Module) (family : Family) (p : Promise) → Whole m family p → promise_fits m family p ≡ true
-whole_fits m family p h = rw (h.1, h.0.0, h.0.1, h.0.2) refl
+whole_fits m family p h = rw (h.1, h.0.3, h.0.0, h.0.1, h.0.2) refl
 
 promise_is : (m : Module) (family : Family) (i : Input) (p : Promise) (o : Input) → (promise m family).says i p o → (promise_fits m family p ≡ true) × (still i ≡ still o)
 unfolding promise
 promise_is m family i p o h =
-    let one = promised_fact_is m family no_promise i h.0 h.1 (refl, refl, refl) h.2 in
+    let one = promised_fact_is m family no_promise i h.0 h.1 (refl, refl, refl, refl) h.2 in
     let two = more_facts_is m family h.0 h.1 h.3.0 h.3.1 one.0 h.3.2 in
     let three = more_facts_is m family h.3.0 h.3.1 h.3.3.0 h.3.3.1 two.0 h.3.3.2 in
     let all = more_facts_is m family h.3.3.0 h.3.3.1 h.3.3.3.0 h.3.3.3.1 three.0 h.3.3.3.2 in
@@ -242,46 +299,71 @@ bits_fit family.Address x bits e = absurd cc
 bits_fit family.Opaque x bits e = absurd cc
 bits_fit family.Nothing x bits e = absurd cc
 
-head_address : (family : Family) (w : Bytes) (a b : Bool) → (if a then (if is_reference family then head.Reference else head.Other) else (if b then (if is_address family then head.Address else head.Other) else number_head (same_bits family (bits_of_word w)))) ≡ head.Address → is_address family ≡ true
-head_address family w true b e = by (is_reference family) e
+head_address : (m : Module) (family : Family) (w : Bytes) (a b : Bool) → (if a then (if is_reference family then head.Reference else head.Other) else (if b then (if is_address family then head.Address else head.Other) else bits_head m family (bits_of_word w))) ≡ head.Address → is_address family ≡ true
+head_address m family w true b e = by (is_reference family) e
   where
     by : (t : Bool) → (if t then head.Reference else head.Other) ≡ head.Address → is_address family ≡ true
     by true e = absurd cc
     by false e = absurd cc
-head_address family w false true e = by (is_address family) e
+head_address m family w false true e = by (is_address family) e
   where
     by : (t : Bool) → (if t then head.Address else head.Other) ≡ head.Address → t ≡ true
     by true e = refl
     by false e = absurd cc
-head_address family w false false e = by (same_bits family (bits_of_word w)) e
+head_address m family w false false e = by (may_be_outside m family && has_bits 64 (bits_of_word w)) (same_bits family (bits_of_word w)) e
   where
-    by : (x : Option ℕ) → number_head x ≡ head.Address → is_address family ≡ true
-    by None e = absurd cc
-    by (Some n) e = absurd cc
+    by : (t : Bool) (x : Option ℕ) → (if t then head.Outside else number_head x) ≡ head.Address → is_address family ≡ true
+    by true x e = absurd cc
+    by false None e = absurd cc
+    by false (Some n) e = absurd cc
 
-head_number : (family : Family) (w : Bytes) (bits : ℕ) (a b : Bool) → (if a then (if is_reference family then head.Reference else head.Other) else (if b then (if is_address family then head.Address else head.Other) else number_head (same_bits family (bits_of_word w)))) ≡ head.Number bits → is_some (same_bits family (small bits)) ≡ true
-head_number family w bits true b e = by (is_reference family) e
+-- the bits of a word begin this fact
+bits_begin : (m : Module) (family : Family) (w : Bytes) (k : Head) (a b : Bool) → (k ≡ head.Reference → ⊥) → (k ≡ head.Address → ⊥) → (k ≡ head.Other → ⊥)
+    → (if a then (if is_reference family then head.Reference else head.Other) else (if b then (if is_address family then head.Address else head.Other) else bits_head m family (bits_of_word w))) ≡ k → bits_head m family (bits_of_word w) ≡ k
+bits_begin m family w k true b reference address other e = by (is_reference family) e
   where
-    by : (t : Bool) → (if t then head.Reference else head.Other) ≡ head.Number bits → is_some (same_bits family (small bits)) ≡ true
-    by true e = absurd cc
-    by false e = absurd cc
-head_number family w bits false true e = by (is_address family) e
+    by : (t : Bool) → (if t then head.Reference else head.Other) ≡ k → bits_head m family (bits_of_word w) ≡ k
+    by true e = absurd (reference (sym e))
+    by false e = absurd (other (sym e))
+bits_begin m family w k false true reference address other e = by (is_address family) e
   where
-    by : (t : Bool) → (if t then head.Address else head.Other) ≡ head.Number bits → is_some (same_bits family (small bits)) ≡ true
+    by : (t : Bool) → (if t then head.Address else head.Other) ≡ k → bits_head m family (bits_of_word w) ≡ k
+    by true e = absurd (address (sym e))
+    by false e = absurd (other (sym e))
+bits_begin m family w k false false reference address other e = e
+
+head_number : (m : Module) (family : Family) (w : Bytes) (bits : ℕ) (a b : Bool) → (if a then (if is_reference family then head.Reference else head.Other) else (if b then (if is_address family then head.Address else head.Other) else bits_head m family (bits_of_word w))) ≡ head.Number bits → is_some (same_bits family (small bits)) ≡ true
+head_number m family w bits a b e = by (may_be_outside m family && has_bits 64 (bits_of_word w)) (bits_begin m family w (head.Number bits) a b (λ e. cc) (λ e. cc) (λ e. cc) e)
+  where
+    by : (t : Bool) → (if t then head.Outside else number_head (same_bits family (bits_of_word w))) ≡ head.Number bits → is_some (same_bits family (small bits)) ≡ true
     by true e = absurd cc
-    by false e = absurd cc
-head_number family w bits false false e =
-    let p = bits_fit family (bits_of_word w) bits e in
-    ap (λ x. is_some (same_bits family x)) (bits_are w bits p.0) ∙ p.1
+    by false e =
+        let p = bits_fit family (bits_of_word w) bits e in
+        ap (λ x. is_some (same_bits family x)) (bits_are w bits p.0) ∙ p.1
+
+head_outside : (m : Module) (family : Family) (w : Bytes) (a b : Bool) → (if a then (if is_reference family then head.Reference else head.Other) else (if b then (if is_address family then head.Address else head.Other) else bits_head m family (bits_of_word w))) ≡ head.Outside → may_be_outside m family ≡ true
+head_outside m family w a b e = by (may_be_outside m family) (has_bits 64 (bits_of_word w)) (same_bits family (bits_of_word w)) (bits_begin m family w head.Outside a b (λ e. cc) (λ e. cc) (λ e. cc) e)
+  where
+    by : (s t : Bool) (x : Option ℕ) → (if s && t then head.Outside else number_head x) ≡ head.Outside → s ≡ true
+    by true t x e = refl
+    by false t None e = absurd cc
+    by false t (Some n) e = absurd cc
+
+-- an address outside
+outside_fact : (m : Module) (family : Family) (i : Input) (fact : Fact) (o : Input) → may_be_outside m family ≡ true → (taken {M = Mistake} (facts.Number 64 None)).says i fact o → FactIs m family i fact o
+outside_fact m family i fact o outside h =
+    let fits : fact_fits m family (facts.Number 64 None) ≡ true = or_second (is_some (same_bits family (small 64)) && below_fits None) (is_outside_fact m family 64 None) (and_true (may_be_outside m family) true outside refl) in
+    subst (λ x. FactIs m family i x o) (taken_is (facts.Number 64 None) i fact o h) (fits, still_taken (facts.Number 64 None) i fact o h)
 
 fact_is : (m : Module) (f : Function) (family : Family) (i : Input) (fact : Fact) (o : Input) → (fact_of m f family).says i fact o → FactIs m family i fact o
 unfolding fact_of
-fact_is m f family i fact o h = by (head_by family (word i)) refl h
+fact_is m f family i fact o h = by (head_by m family (word i)) refl h
   where
-    by : (k : Head) → head_by family (word i) ≡ k → (fact_by m f family k).says i fact o → FactIs m family i fact o
-    by (head.Number bits) is h = number_fact m family bits i fact o (head_number family (word i) bits (bytes_eq (word i) (codes "ref")) (bytes_eq (word i) (codes "addr")) is) h
+    by : (k : Head) → head_by m family (word i) ≡ k → (fact_by m f family k).says i fact o → FactIs m family i fact o
+    by (head.Number bits) is h = number_fact m family bits i fact o (head_number m family (word i) bits (bytes_eq (word i) (codes "ref")) (bytes_eq (word i) (codes "addr")) is) h
+    by head.Outside is h = outside_fact m family i fact o (head_outside m family (word i) (bytes_eq (word i) (codes "ref")) (bytes_eq (word i) (codes "addr")) is) h
     by head.Reference is h = reference_fact m f family i fact o h
-    by head.Address is h = address_fact m f family i fact o (head_address family (word i) (bytes_eq (word i) (codes "ref")) (bytes_eq (word i) (codes "addr")) is) h
+    by head.Address is h = address_fact m f family i fact o (head_address m family (word i) (bytes_eq (word i) (codes "ref")) (bytes_eq (word i) (codes "addr")) is) h
     by head.Other is h = absurd h
 
 still_fact_end : (fact : Fact) → Still (fact_end fact)

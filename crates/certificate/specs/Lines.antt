@@ -1,5 +1,5 @@
 -- The forms of facts and claims: a claim is a line.
-use Rattle.std.specs.Prelude.{ℕ, Bool, true, false, not, ◌&&◌, ◌||◌, ◌==◌, if◌then◌else◌, Option, Some, None, is_some, codes}
+use Rattle.std.specs.Prelude.{ℕ, Bool, true, false, not, ◌&&◌, ◌||◌, ◌==◌, if◌then◌else◌, Option, Some, None, is_some, is_none, codes}
 use Rattle.std.specs.Str.{bytes_eq}
 use Rattle.ir_ast.specs.declared.function.Function.{Function}
 use Rattle.ir_ast.specs.declared.module.Module.{Module}
@@ -8,7 +8,7 @@ use Rattle.ir_tokens.specs.Bytes.{Text as Bytes}
 use Rattle.name_text.specs.Words.{begins_with}
 use Rattle.certificate.specs.Numbers.{bits_of_word}
 use Rattle.certificate.specs.Names.{global_of_word}
-use Rattle.certs.specs.Families.{family_of_value, is_reference, is_integer, is_address, same_bits}
+use Rattle.certs.specs.Families.{family_of_value, is_reference, is_integer, is_address, may_be_outside, same_bits}
 use Rattle.name_text.specs.Reader.{left, word, begins, line_ends}
 use Rattle.name_text.specs.Forms.{syntax, skip, taken, expect, line_end}
 use Rattle.certificate.specs.Input.{Form}
@@ -32,7 +32,7 @@ use Rattle.certificate.specs.declared.mistake.Mistake.TheVariants.{ListedTwice}
 
 -- nothing is promised
 abbrev pub no_promise : Promise
-no_promise = record { layout = None; nonnull = false; below = None }
+no_promise = record { layout = None; nonnull = false; below = None; number = false }
 
 -- a fact may be given where it fits and is not given so far
 abbrev pub fact_if : (given fits : Bool) → Promised → Promised
@@ -45,17 +45,28 @@ promised_by family promise word =
     else (if bytes_eq word (codes "nonnull") then fact_if promise.nonnull (is_reference family) promised.Nonnull
     else (if bytes_eq word (codes "below") then fact_if (is_some promise.below) (is_integer family) promised.Below else promised.Other))
 
+-- an address outside may be promised of such a value, of which nothing is promised so far
+abbrev pub may_stand_alone : Module → Family → Promise → Bool
+may_stand_alone m family promise = may_be_outside m family && (is_none promise.layout && (not promise.nonnull && is_none promise.below))
+
+-- the same with the word of an address outside, with which no other stands
+abbrev pub promised_in : Module → Family → Promise → Bytes → Promised
+promised_in m family promise word =
+    if bytes_eq word (codes "i64") then fact_if promise.number (may_stand_alone m family promise) promised.Number
+    else (if promise.number then promised.Other else promised_by family promise word)
+
 -- what is promised with this fact
 abbrev pub promise_by : Module → Family → Promise → Promised → Form Promise
 promise_by m family promise promised.Layout = skip >> layout_name m family >>= λ layout. pure (record promise { layout = Some layout })
 promise_by m family promise promised.Nonnull = taken (record promise { nonnull = true })
 promise_by m family promise promised.Below = skip >> count >>= λ n. pure (record promise { below = Some n })
+promise_by m family promise promised.Number = taken (record promise { number = true })
 promise_by m family promise promised.Again = twice
 promise_by m family promise promised.Other = syntax
 
 -- one more fact of a promise
 unfoldable pub promised_fact : Module → Family → Promise → Form Promise
-promised_fact m family promise = look (λ i. promised_by family promise (word i)) (promise_by m family promise)
+promised_fact m family promise = look (λ i. promised_in m family promise (word i)) (promise_by m family promise)
 
 -- one more fact unless the line has ended
 abbrev pub more_by : Module → Family → Promise → Bool → Form Promise
@@ -83,11 +94,20 @@ abbrev pub number_head : Option ℕ → Head
 number_head None = head.Other
 number_head (Some bits) = head.Number bits
 
+-- whether the bits are there and are these
+abbrev pub has_bits : (bits : ℕ) → Option ℕ → Bool
+has_bits bits None = false
+has_bits bits (Some n) = n == bits
+
+-- 64 bits are those of an address outside, where the value may be one
+abbrev pub bits_head : Module → Family → Option ℕ → Head
+bits_head m family bits = if may_be_outside m family && has_bits 64 bits then head.Outside else number_head (same_bits family bits)
+
 -- which fact of such a value a word begins
-abbrev pub head_by : Family → Bytes → Head
-head_by family word =
+abbrev pub head_by : Module → Family → Bytes → Head
+head_by m family word =
     if bytes_eq word (codes "ref") then (if is_reference family then head.Reference else head.Other)
-    else (if bytes_eq word (codes "addr") then (if is_address family then head.Address else head.Other) else number_head (same_bits family (bits_of_word word)))
+    else (if bytes_eq word (codes "addr") then (if is_address family then head.Address else head.Other) else bits_head m family (bits_of_word word))
 
 -- a number after `below`, if that is the next word
 abbrev pub below_by : Bool → Form (Option ℕ)
@@ -153,20 +173,16 @@ address m f = skip >> look (λ i. begins_with 64 (word i)) (address_by m f)
 -- the fact that begins so
 abbrev pub fact_by : Module → Function → Family → Head → Form Fact
 fact_by m f family (head.Number bits) = number bits
+fact_by m f family head.Outside = taken (fact.Number 64 None)
 fact_by m f family head.Reference = reference m f family
 fact_by m f family head.Address = address m f
 fact_by m f family head.Other = syntax
 
 -- a fact that fits such a value
 unfoldable pub fact_of : Module → Function → Family → Form Fact
-fact_of m f family = look (λ i. head_by family (word i)) (fact_by m f family)
+fact_of m f family = look (λ i. head_by m family (word i)) (fact_by m f family)
 
 -- ---- the ends of lines
-
--- whether the bits are there and are these
-abbrev pub has_bits : (bits : ℕ) → Option ℕ → Bool
-has_bits bits None = false
-has_bits bits (Some n) = n == bits
 
 -- whether a word is this age
 abbrev pub has_age : Age → Bytes → Bool

@@ -21,11 +21,15 @@ use Rattle.certificate.specs.declared.shape_draft.ShapeDraft.{ShapeDraft}
 
 -- ---- promises
 
--- what is promised of a value that refers to this layout, if it does: `ref L` is added where it lacks
+-- what is promised of a reference to this layout: `ref L` is added where it lacks, but not to an address outside
+abbrev pub with_layout : (layout : ℕ) → Promise → Promise
+with_layout layout promise = if promise.number then promise else record { layout = Some (unwrap_or promise.layout layout); nonnull = promise.nonnull; below = promise.below; number = false }
+
+-- what is promised of a value that refers to this layout, if it does
 abbrev pub with_reference : (layout : Option ℕ) → Option Promise → Option Promise
 with_reference None promise = promise
-with_reference (Some layout) None = Some (record { layout = Some layout; nonnull = false; below = None })
-with_reference (Some layout) (Some promise) = Some (record { layout = Some (unwrap_or promise.layout layout); nonnull = promise.nonnull; below = promise.below })
+with_reference (Some layout) None = Some (record { layout = Some layout; nonnull = false; below = None; number = false })
+with_reference (Some layout) (Some promise) = Some (with_layout layout promise)
 
 -- what a parameter refers to, if there is one
 abbrev pub parameter_layout : Module → Option Parameter → Option ℕ

@@ -108,7 +108,7 @@ promised_layout m (Some layout) = codes " ref " ++ layout_text m layout
 
 -- what is promised, and the line's end
 abbrev pub promise_text : Module → Promise → Text
-promise_text m promise = promised_layout m promise.layout ++ word_if promise.nonnull (codes " nonnull") ++ below_text promise.below ++ 10 ∷ []
+promise_text m promise = word_if promise.number (codes " i64") ++ promised_layout m promise.layout ++ word_if promise.nonnull (codes " nonnull") ++ below_text promise.below ++ 10 ∷ []
 
 -- the line of a parameter, if something is promised of it
 abbrev pub parameter_text : Module → Function → Parameter → Option Promise → Text

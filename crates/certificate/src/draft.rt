@@ -159,11 +159,13 @@ fn promised_alike(
                 layout,
                 nonnull,
                 below,
+                number,
             },
         ) => Some(Promise {
             layout,
             nonnull,
             below,
+            number,
         }),
     };
     let promises = vec![in alloc; alike; count]?;

@@ -18,14 +18,28 @@ use std::alloc::Global;
 #[derive(Clone, Copy)]
 pub enum Head {
     Number(u32),
+    /// 64 bits of a pointer that may be an address outside.
+    Outside,
     Reference,
     Address,
     /// None, or one that does not fit the type.
     Other,
 }
 
-fn head_by(family: Family, word: &[u8]) -> Head
-    ensures { result ≡ form.head_by family word.now }
+fn bits_head(module: &Module, family: &Family, bits: Option<u64>) -> Head
+    ensures { result ≡ form.bits_head «module».now family.now bits }
+{
+    if family.may_be_outside(module) && has_bits(64, bits) {
+        return Head::Outside;
+    }
+    match family.same_bits(bits) {
+        None => Head::Other,
+        Some(bits) => Head::Number(bits),
+    }
+}
+
+fn head_by(module: &Module, family: &Family, word: &[u8]) -> Head
+    ensures { result ≡ form.head_by «module».now family.now word.now }
 {
     if word == b"ref".as_slice() {
         return if family.is_reference() {
@@ -41,10 +55,7 @@ fn head_by(family: Family, word: &[u8]) -> Head
             Head::Other
         };
     }
-    match family.same_bits(bits_of_word(word)) {
-        None => Head::Other,
-        Some(bits) => Head::Number(bits),
-    }
+    bits_head(module, family, bits_of_word(word))
 }
 
 #[tactic(auto, unfolding(crate::specs::Lines::below, name_text::specs::Forms::skip))]
@@ -165,7 +176,7 @@ fn address(
 }
 
 /// A fact that fits such a value.
-#[tactic(auto, unfolding(crate::specs::Lines::fact_of))]
+#[tactic(auto, unfolding(crate::specs::Lines::fact_of, name_text::specs::Forms::skip))]
 fn fact_of(
     alloc: Global,
     input: &mut Input<'_>,
@@ -175,8 +186,13 @@ fn fact_of(
 ) -> Result<Fact, WordFault>
     ensures { Reads ((form.fact_of «module».now function.now family.now).read input.old) result input.new }
 {
-    match head_by(*family, input.word()) {
+    match head_by(module, family, input.word()) {
         Head::Number(bits) => number(input, bits),
+        Head::Outside => {
+            input.skip();
+            let bits = 64;
+            Ok(Fact::Number { bits, below: None })
+        }
         Head::Reference => reference(alloc, input, module, function, family),
         Head::Address => address(alloc, input, module, function),
         Head::Other => Err(WordFault::Syntax(input.left())),

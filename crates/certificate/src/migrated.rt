@@ -20,6 +20,21 @@ use pools::LayoutId;
 use std::alloc::{AllocError, Global};
 use types::is_reference;
 
+/// What is promised of a reference to this layout: `ref L` is added where it lacks, but not to an address outside.
+fn with_layout(layout: LayoutId, promise: Promise) -> Promise
+    ensures { result ≡ spec.with_layout layout promise }
+{
+    if promise.number {
+        return promise;
+    }
+    Promise {
+        layout: Some(promise.layout.unwrap_or(layout)),
+        nonnull: promise.nonnull,
+        below: promise.below,
+        number: false,
+    }
+}
+
 /// What is promised of a value that refers to this layout, if it does.
 fn with_reference(layout: Option<LayoutId>, promise: Option<Promise>) -> Option<Promise>
     ensures { result ≡ spec.with_reference layout promise }
@@ -30,12 +45,9 @@ fn with_reference(layout: Option<LayoutId>, promise: Option<Promise>) -> Option<
             layout: Some(layout),
             nonnull: false,
             below: None,
+            number: false,
         }),
-        (Some(layout), Some(promise)) => Some(Promise {
-            layout: Some(promise.layout.unwrap_or(layout)),
-            nonnull: promise.nonnull,
-            below: promise.below,
-        }),
+        (Some(layout), Some(promise)) => Some(with_layout(layout, promise)),
     }
 }
 

@@ -39,6 +39,7 @@ fn put_promise(
 ) -> Result<(), AllocError>
     ensures { OnOk result (out.new.items ≡ out.old.items ++ spec.promise_text «module».now promise.now) }
 {
+    put_if(out, promise.number, b" i64")?;
     put_promised_layout(out, module, promise.layout)?;
     put_if(out, promise.nonnull, b" nonnull")?;
     put_below(alloc, out, promise.below)?;

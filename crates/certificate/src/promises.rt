@@ -17,6 +17,8 @@ pub enum Promised {
     Layout,
     Nonnull,
     Below,
+    /// `i64`: it is an address outside.
+    Number,
     /// It is promised already.
     Again,
     /// Nothing, or what does not fit the type.
@@ -31,6 +33,7 @@ fn no_promise() -> Promise
         layout: None,
         nonnull: false,
         below: None,
+        number: false,
     }
 }
 
@@ -68,6 +71,28 @@ fn promised_by(family: Family, promise: &Promise, word: &[u8]) -> Promised
     }
 }
 
+/// Whether an address outside may be promised of such a value, of which nothing is promised so far.
+fn may_stand_alone(module: &Module, family: &Family, promise: &Promise) -> bool
+    ensures { result ≡ form.may_stand_alone «module».now family.now promise.now }
+{
+    family.may_be_outside(module)
+        && (promise.layout.is_none() && (!promise.nonnull && promise.below.is_none()))
+}
+
+/// What a word promises, where an address outside may be promised, with which no other word stands.
+fn promised_in(module: &Module, family: &Family, promise: &Promise, word: &[u8]) -> Promised
+    ensures { result ≡ form.promised_in «module».now family.now promise.now word.now }
+{
+    if word == b"i64".as_slice() {
+        let alone = may_stand_alone(module, family, promise);
+        fact_if(promise.number, alone, Promised::Number)
+    } else if promise.number {
+        Promised::Other
+    } else {
+        promised_by(*family, promise, word)
+    }
+}
+
 #[tactic(auto, unfolding(crate::specs::Lines::promised_fact, name_text::specs::Forms::skip))]
 fn promised_fact(
     alloc: Global,
@@ -78,7 +103,7 @@ fn promised_fact(
 ) -> Result<Promise, WordFault>
     ensures { Reads ((form.promised_fact «module».now family.now promise.now).read input.old) result input.new }
 {
-    match promised_by(*family, promise, input.word()) {
+    match promised_in(module, family, promise, input.word()) {
         Promised::Again => Err(WordFault::Wrong(Mistake::ListedTwice(input.left()))),
         Promised::Other => Err(WordFault::Syntax(input.left())),
         Promised::Layout => {
@@ -97,6 +122,13 @@ fn promised_fact(
             input.skip();
             let below = Some(count(input)?);
             Ok(Promise { below, ..*promise })
+        }
+        Promised::Number => {
+            input.skip();
+            Ok(Promise {
+                number: true,
+                ..*promise
+            })
         }
     }
 }

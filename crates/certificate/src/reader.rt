@@ -70,11 +70,13 @@ fn parameter(
         layout,
         nonnull,
         below,
+        number,
     } = promise(alloc, input, module, family)?;
     let promised = Promise {
         layout,
         nonnull,
         below,
+        number,
     };
     input.read.promise(value.number() as usize, &promised);
     Ok(())
@@ -273,11 +275,13 @@ pub fn section_of(
                 layout,
                 nonnull,
                 below,
+                number,
             },
         ) => Some(Promise {
             layout,
             nonnull,
             below,
+            number,
         }),
     };
     input.read.end_section(alloc, number, mark, &promised);

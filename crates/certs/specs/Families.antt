@@ -102,6 +102,12 @@ abbrev pub is_integer : Family → Bool
 is_integer (Number bits) = true
 is_integer _ = false
 
+-- a pointer, which may be an address outside where the wide forms may stand
+abbrev pub may_be_outside : Module → Family → Bool
+may_be_outside m (Number bits) = false
+may_be_outside m Nothing = false
+may_be_outside m _ = m.wide
+
 -- a pointer that may be no reference
 abbrev pub is_address : Family → Bool
 is_address Address = true

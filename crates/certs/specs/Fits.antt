@@ -1,5 +1,5 @@
 -- Which certificates are certificates of a module.
-use Rattle.std.specs.Prelude.{ℕ, Bool, true, false, not, ◌&&◌, ◌||◌, ◌==◌, if◌then◌else◌, List, [], ◌∷◌, length, slice_get, unwrap_or, Option, Some, None, is_some}
+use Rattle.std.specs.Prelude.{ℕ, Bool, true, false, not, ◌&&◌, ◌||◌, ◌==◌, if◌then◌else◌, List, [], ◌∷◌, length, slice_get, unwrap_or, Option, Some, None, is_some, is_none}
 use Rattle.std.specs.List.{list_all, list_any, range_with_len, zip}
 pub use Rattle.ir_ast.specs.Numbers.{small}
 use Rattle.ir_ast.specs.declared.function.Function.{Function}
@@ -10,7 +10,7 @@ use Rattle.ir_ast.specs.declared.module.Module.{Module}
 use Rattle.pools.specs.WordSets.{has_word}
 use Rattle.types.specs.Globals.{global_named}
 use Rattle.certs.specs.RootNames.{root_names}
-use Rattle.certs.specs.Families.{family_of_type, family_of_value, is_reference, is_integer, is_address, refers_to, same_bits}
+use Rattle.certs.specs.Families.{family_of_type, family_of_value, is_reference, is_integer, is_address, may_be_outside, refers_to, same_bits}
 use Rattle.certs.specs.declared.family.Family.{Family}
 use Rattle.certs.specs.declared.section.Fact.{Fact}
 use Rattle.certs.specs.declared.section.Fact.TheVariants as fact
@@ -52,7 +52,7 @@ words_fit set = (length set == 64) && list_any (has_word set) (range_with_len 0 
 
 -- at least one thing is promised
 abbrev pub says_something : Promise → Bool
-says_something promise = is_some promise.layout || promise.nonnull || is_some promise.below
+says_something promise = is_some promise.layout || promise.nonnull || is_some promise.below || promise.number
 
 -- a layout that fits, if one is promised
 abbrev pub promised_layout_fits : Module → Family → Option ℕ → Bool
@@ -64,9 +64,14 @@ abbrev pub promised_below_fits : Family → Option ℕ → Bool
 promised_below_fits family None = true
 promised_below_fits family (Some n) = is_integer family && is_count n
 
+-- nothing else is promised of an address outside, which is a pointer of a text with the wide forms
+abbrev pub promised_number_fits : Module → Family → Promise → Bool
+promised_number_fits m family promise =
+    not promise.number || (may_be_outside m family && (is_none promise.layout && (not promise.nonnull && is_none promise.below)))
+
 -- what may be promised of such a value
 abbrev pub promise_fits : Module → Family → Promise → Bool
-promise_fits m family promise = says_something promise && promised_layout_fits m family promise.layout && (not promise.nonnull || is_reference family) && promised_below_fits family promise.below
+promise_fits m family promise = says_something promise && promised_number_fits m family promise && promised_layout_fits m family promise.layout && (not promise.nonnull || is_reference family) && promised_below_fits family promise.below
 
 -- nothing, or what may be promised
 abbrev pub promised_fits : Module → Family → Option Promise → Bool
@@ -79,9 +84,13 @@ parameter_fits m f parameter promise = promised_fits m (family_of_value m f para
 
 -- ---- claims
 
+-- a number of 64 bits, of which no more is said, may be given of a pointer that is an address outside
+abbrev pub is_outside_fact : Module → Family → (bits : ℕ) → (below : Option ℕ) → Bool
+is_outside_fact m family bits below = may_be_outside m family && ((bits == 64) && is_none below)
+
 -- a fact that may be given of such a value
 abbrev pub fact_fits : Module → Family → Fact → Bool
-fact_fits m family (fact.Number bits below) = is_some (same_bits family (small bits)) && below_fits below
+fact_fits m family (fact.Number bits below) = (is_some (same_bits family (small bits)) && below_fits below) || is_outside_fact m family bits below
 fact_fits m family (fact.Reference layout nonnull age same) = layout_fits m family layout
 fact_fits m family (fact.Address base words) = is_address family && words_fit words
 fact_fits m family (fact.GlobalAddress symbol) = is_address family && is_some (global_named m symbol)

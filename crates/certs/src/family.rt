@@ -180,6 +180,16 @@ impl Family {
         matches!(self, Family::Number(_))
     }
 
+    /// Whether it is a pointer, which may be an address outside where the wide forms may stand.
+    pub fn may_be_outside(&self, module: &Module) -> bool
+        ensures { result ≡ spec.may_be_outside «module».now self.now }
+    {
+        match *self {
+            Family::Number(_) | Family::Nothing => false,
+            _ => module.wide,
+        }
+    }
+
     /// Whether it is a pointer that may be no reference.
     pub fn is_address(self) -> bool
         ensures { result ≡ spec.is_address self }

@@ -59,12 +59,27 @@ fn words_fit(words: &WordSet) -> bool
     words.next_from(0).is_some()
 }
 
+fn says_something(promise: &Promise) -> bool
+    ensures { result ≡ spec.says_something promise.now }
+{
+    promise.layout.is_some() || promise.nonnull || promise.below.is_some() || promise.number
+}
+
+/// Whether nothing else is promised of an address outside, which is a pointer.
+fn promised_number_fits(module: &Module, family: &Family, promise: &Promise) -> bool
+    ensures { result ≡ spec.promised_number_fits «module».now family.now promise.now }
+{
+    !promise.number
+        || (family.may_be_outside(module)
+            && (promise.layout.is_none() && (!promise.nonnull && promise.below.is_none())))
+}
+
 /// Whether this may be promised of such a value.
 fn promise_fits(module: &Module, family: &Family, promise: &Promise) -> bool
     ensures { result ≡ spec.promise_fits «module».now family.now promise.now }
 {
-    let says_something = promise.layout.is_some() || promise.nonnull || promise.below.is_some();
-    says_something
+    says_something(promise)
+        && promised_number_fits(module, family, promise)
         && promised_layout_fits(module, family, promise.layout)
         && (!promise.nonnull || family.is_reference())
         && promised_below_fits(family, promise.below)
@@ -109,13 +124,21 @@ fn parameter_fits(
     promised_fits(module, &family, promise)
 }
 
+/// Whether it is what may be said of an address outside: a number of 64 bits.
+fn is_outside_fact(module: &Module, family: &Family, bits: u32, below: Option<u64>) -> bool
+    ensures { result ≡ spec.is_outside_fact «module».now family.now bits below }
+{
+    family.may_be_outside(module) && (bits == 64 && below.is_none())
+}
+
 /// Whether a fact may be given of such a value.
 fn fact_fits(module: &Module, family: Family, fact: &Fact) -> bool
     ensures { result ≡ spec.fact_fits «module».now family fact.now }
 {
     match fact {
         Fact::Number { bits, below } => {
-            family.same_bits(Some(*bits as u64)).is_some() && below_fits(*below)
+            let outside = is_outside_fact(module, &family, *bits, *below);
+            (family.same_bits(Some(*bits as u64)).is_some() && below_fits(*below)) || outside
         }
         Fact::Reference { layout, .. } => layout_fits(module, family, *layout),
         Fact::Address { words, .. } => family.is_address() && words_fit(words),

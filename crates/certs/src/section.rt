@@ -17,6 +17,8 @@ pub struct Promise {
     pub nonnull: bool,
     /// `below n`, from 1.
     pub below: Option<u64>,
+    /// `i64` of a pointer: it is an address outside of the module.
+    pub number: bool,
 }
 
 /// Whether a reference was published, or has lost its cell.

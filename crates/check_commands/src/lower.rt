@@ -1,20 +1,20 @@
 //! The command `lower`.
 ghost use Rattle.std.specs.Prelude.{◌≡◌, IfOk, codes};
-ghost use Rattle.check_commands.specs.Lowering.{of_lowered, OfLower, OfLowerGiven, OfLowered, OfProgram, OfUnchecked};
+ghost use Rattle.check_commands.specs.Lowering.{of_lowered, unchecked_text, OfLower, OfLowerGiven, OfLowered, OfMade, OfProgram, OfUnchecked};
 ghost use Rattle.copies.specs.Opaque.{opaque_module};
 ghost use Rattle.lowering.specs.Lowered.{lowered_text};
 ghost use Rattle.reports.specs.Files.{HasProgram};
 ghost use Rattle.reports.specs.Report.{IsTold, made_text};
-ghost use Rattle.reports.specs.Said.{OfCertified, OnBoth, Says, Tells};
+ghost use Rattle.reports.specs.Said.{OfCertified, OnBoth, OnOutput, Says, Tells};
 
 use command_line::LowerOptions;
 use copies::opaque;
 use layout::Program;
-use lowering::lower;
+use lowering::{address_giver, lower};
 use module_check::check;
 use reports::{
-    Certified, Files, Outputs, STATUS_YES, kept_files, memory, program_in, read_certified,
-    report_verdict, unread,
+    Certified, Files, Outputs, STATUS_YES, address_given, kept_files, memory, program_in,
+    read_certified, report_verdict, unread,
 };
 use std::alloc::{AllocError, Global};
 use std::io;
@@ -38,7 +38,22 @@ fn print_lowered<O: Write>(out: &mut O, text: &[u8]) -> io::Result<u8>
     Ok(STATUS_YES)
 }
 
-/// Lowers an accepted program.
+/// Prints the text that LLVM gets of an accepted program.
+fn put_program(
+    alloc: Global,
+    program: &Program,
+    recorded: bool,
+    outputs: &mut Outputs,
+) -> io::Result<u8>
+    ensures { IfOk result (Says (OfMade (OnOutput (of_lowered recorded program.now))) outputs.old outputs.new) }
+{
+    match text_of(alloc, program, recorded) {
+        Ok(text) => print_lowered(&mut outputs.out, text.as_slice()),
+        Err(_) => memory(&mut outputs.err),
+    }
+}
+
+/// Lowers an accepted program, unless a function outside gives an address.
 fn lower_program(
     alloc: Global,
     program: &Program,
@@ -47,9 +62,10 @@ fn lower_program(
 ) -> io::Result<u8>
     ensures { IfOk result (Says (OfProgram recorded program.now) outputs.old outputs.new) }
 {
-    match text_of(alloc, program, recorded) {
-        Ok(text) => print_lowered(&mut outputs.out, text.as_slice()),
-        Err(_) => memory(&mut outputs.err),
+    let of_module = program.module();
+    match address_giver(of_module) {
+        Some(symbol) => address_given(&mut outputs.err, of_module, symbol),
+        None => put_program(alloc, program, recorded, outputs),
     }
 }
 
@@ -100,7 +116,22 @@ fn print_unchecked(text: &[u8], outputs: &mut Outputs) -> io::Result<u8>
     Ok(status)
 }
 
-/// Lowers a program that nothing checks.
+/// Prints the text that LLVM gets of a program that nothing checks.
+fn put_unchecked(
+    alloc: Global,
+    program: &Program,
+    recorded: bool,
+    outputs: &mut Outputs,
+) -> io::Result<u8>
+    ensures { IfOk result (Says (OfMade (unchecked_text recorded program.now)) outputs.old outputs.new) }
+{
+    match text_of(alloc, program, recorded) {
+        Ok(text) => print_unchecked(text.as_slice(), outputs),
+        Err(_) => memory(&mut outputs.err),
+    }
+}
+
+/// Lowers a program that nothing checks, unless a function outside gives an address.
 fn lower_read(
     alloc: Global,
     program: &Program,
@@ -111,9 +142,10 @@ fn lower_read(
     requires { HasProgram files.now.of_module files.now.shapes program.now }
     ensures { IfOk result (Says (OfUnchecked recorded files.now.of_module files.now.shapes) outputs.old outputs.new) }
 {
-    match text_of(alloc, program, recorded) {
-        Ok(text) => print_unchecked(text.as_slice(), outputs),
-        Err(_) => memory(&mut outputs.err),
+    let of_module = program.module();
+    match address_giver(of_module) {
+        Some(symbol) => address_given(&mut outputs.err, of_module, symbol),
+        None => put_unchecked(alloc, program, recorded, outputs),
     }
 }
 
@@ -153,7 +185,7 @@ fn lower_given(
 
 /// Prints the text that LLVM gets of the module: where a certificate is given, if the module is accepted with it. The first fault counts: of
 /// the module, its path and then its text; of the certificate or the shapes likewise; then of the layouts; and then of the check. A text of
-/// which something is lost that compiled code needs has L7.
+/// which something is lost that compiled code needs has L7, and so has one with a function outside that gives an address.
 pub fn lower_files(
     alloc: Global,
     options: LowerOptions,

@@ -103,6 +103,10 @@ pub enum Unkept {
     Nonnull,
     Below,
     Layout,
+    /// It is an address outside of the module, which is not promised to be a number.
+    Outside,
+    /// It is none, and is promised to be a number.
+    Inside,
     /// None of these.
     Other,
 }
@@ -141,8 +145,6 @@ pub enum Outside {
     OnlyDeclared,
     /// The certificate does not trust it.
     Untrusted,
-    /// No certificate speaks of its result.
-    GivesPointer,
     /// It is called with another number of arguments.
     OtherCount,
 }
@@ -284,6 +286,10 @@ pub enum Mending {
     CallTypes(Runtime),
     PromiseLayout,
     PromiseResult,
+    /// A parameter is promised to be a number, as an address outside of the module is.
+    PromiseNumber,
+    /// A result is.
+    PromiseNumberResult,
     Define,
     TakeKnown,
     /// A claim of a value is listed under each block of the diagnosis that does not list it.

@@ -4,7 +4,7 @@ use crate::scene::Scene;
 use crate::told::{call_of, local};
 use block_rules::TypeKind;
 use facts::Known;
-use ir_ast::{Call, Declare, Module, Operand, SymbolId, SymbolSort};
+use ir_ast::{Call, Declare, LocalSort, Module, Operand, SymbolId, SymbolSort, ValueId};
 use outside_names::is_outside_operand;
 use types::is_outside;
 
@@ -27,16 +27,8 @@ fn declare_of(module: &Module, symbol: SymbolId) -> Option<&Declare> {
     }
 }
 
-/// Whether a result of this kind is a number, or none.
-fn gives_number_or_nothing(returned: TypeKind) -> bool {
-    matches!(returned, TypeKind::NoValue | TypeKind::Bits(_))
-}
-
 /// Why a function outside that is declared so may not be called so, where K18 refuses that.
-fn why_not(module: &Module, call: &Call, declared: &Declare) -> Outside {
-    if !gives_number_or_nothing(TypeKind::of(module, declared.returned)) {
-        return Outside::GivesPointer;
-    }
+fn why_not(call: &Call, declared: &Declare) -> Outside {
     if call.arguments.len() == declared.parameters.len() {
         Outside::Untrusted
     } else {
@@ -52,7 +44,7 @@ pub(crate) fn outside_of(scene: &Scene) -> Option<Outside> {
     }
     let call = outside_call(scene)?;
     let declared = declare_of(module, call.callee)?;
-    Some(why_not(module, call, declared))
+    Some(why_not(call, declared))
 }
 
 /// Whether an operand is a reference to a cell.
@@ -80,9 +72,31 @@ pub(crate) fn misused_outside(scene: &Scene, operands: &[Operand]) -> Option<Ope
         return None;
     }
     for operand in operands {
-        if is_outside_operand(scene.context.module(), operand) {
+        if leads_outside(scene, operand) {
             return Some(*operand);
         }
     }
     None
+}
+
+/// Whether an operand is an address outside: the name of something outside, or a pointer that is known to be a number.
+pub(crate) fn leads_outside(scene: &Scene, operand: &Operand) -> bool {
+    match *operand {
+        Operand::Local(value) => is_number(scene, value) && is_pointer(scene, value),
+        _ => is_outside_operand(scene.context.module(), operand),
+    }
+}
+
+fn is_number(scene: &Scene, value: ValueId) -> bool {
+    matches!(scene.facts.known(value), Known::Number { .. })
+}
+
+fn is_pointer(scene: &Scene, value: ValueId) -> bool {
+    let module = scene.context.module();
+    match scene.context.function.sorts.get(value.number() as usize) {
+        Some(LocalSort::Value(written)) => {
+            !matches!(TypeKind::of(module, *written), TypeKind::Bits(_))
+        }
+        _ => true,
+    }
 }

@@ -2,6 +2,7 @@
 use crate::cases::{Case, Mending, Seen, Unkept};
 use crate::cells::cell_layout;
 use crate::diagnosis::{At, Draft, Sought};
+use crate::outside::leads_outside;
 use crate::scene::{Scene, There, defined_as};
 use crate::told::{Told, call_of};
 use block_rules::known_of;
@@ -41,8 +42,21 @@ fn not_nonnull(operand: &Operand, known: &Known) -> Unkept {
     }
 }
 
-/// Which word of a promise an operand is not known to keep, if one of the first two.
-fn unkept_word(facts: &Facts, promise: Promise, operand: &Operand) -> Option<Unkept> {
+/// Which word of what is promised, if anything is, an operand is not known to keep.
+fn unkept_word(scene: &Scene, promise: Option<Promise>, operand: &Operand) -> Option<Unkept> {
+    let is_number = match promise {
+        Some(promise) => promise.number,
+        None => false,
+    };
+    match (is_number, leads_outside(scene, operand)) {
+        (true, false) => Some(Unkept::Inside),
+        (false, true) => Some(Unkept::Outside),
+        _ => unkept_inside(scene.facts, promise?, operand),
+    }
+}
+
+/// Which word of a promise an operand is not known to keep, which leads nowhere outside.
+fn unkept_inside(facts: &Facts, promise: Promise, operand: &Operand) -> Option<Unkept> {
     let known = known_of(facts, operand);
     if is_other(promise.layout, cell_layout(&known)) {
         return Some(Unkept::Layout);
@@ -82,8 +96,8 @@ fn broken_at(scene: &Scene, number: usize, operand: Operand) -> Option<Broken> {
     let functions = scene.context.module().functions.as_slice();
     let called = functions.get(callee.number() as usize)?;
     let parameter = called.parameters.get(number)?.value;
-    let promise = (*scene.context.certs.section(callee)?.parameters.get(number)?)?;
-    let word = unkept_word(scene.facts, promise, &operand)?;
+    let promise = *scene.context.certs.section(callee)?.parameters.get(number)?;
+    let word = unkept_word(scene, promise, &operand)?;
     Some(Broken {
         operand,
         callee,
@@ -114,14 +128,16 @@ pub(crate) fn returned(scene: &Scene) -> Option<Operand> {
 
 /// Which word of what is promised of the result is not kept.
 fn unkept_result(scene: &Scene) -> Option<Unkept> {
-    let promise = scene.context.certs.section(scene.refusal.func)?.result?;
-    unkept_word(scene.facts, promise, &returned(scene)?)
+    let promise = scene.context.certs.section(scene.refusal.func)?.result;
+    unkept_word(scene, promise, &returned(scene)?)
 }
 
-/// What keeps a promise.
-fn mend_promise(found: &mut Draft, told: &Told) {
+/// What keeps a promise of which this word is not kept. Where the word is not there, none can go.
+fn mend_promise(found: &mut Draft, told: &Told, word: &Unkept) {
     found.mend(told, Mending::OfCase);
-    found.mend(told, Mending::WeakerPromise)
+    if !matches!(word, Unkept::Outside) {
+        found.mend(told, Mending::WeakerPromise)
+    }
 }
 
 /// K13. Returns whether a promise is found that an argument does not keep.
@@ -134,7 +150,7 @@ pub(crate) fn find_argument(found: &mut Draft, scene: &Scene) -> bool {
     let line = Sought::Param(broken.parameter);
     found.add_note(&told, At::Certificate(broken.callee, line), Seen::Promise);
     found.know(scene, &[broken.operand]);
-    mend_promise(found, &told);
+    mend_promise(found, &told, &broken.word);
     true
 }
 
@@ -145,5 +161,5 @@ pub(crate) fn find_result(found: &mut Draft, scene: &Scene, operands: &[Operand]
     found.case(&told, Case::Result(word));
     found.cert_note(&told, Sought::Result, Seen::Promise);
     found.know(scene, operands);
-    mend_promise(found, &told)
+    mend_promise(found, &told, &word)
 }

@@ -98,7 +98,8 @@ fn find_parameter(found: &mut Draft, told: &Told, value: ValueId) {
         Ok(true) => {}
         Ok(false) => {
             found.cert_note(told, Sought::Function, Seen::Section);
-            found.mend(told, Mending::PromiseLayout)
+            found.mend(told, Mending::PromiseLayout);
+            mend_wide(found, told, Mending::PromiseNumber)
         }
         Err(_) => found.refuse(),
     }
@@ -109,8 +110,18 @@ fn find_result(found: &mut Draft, told: &Told, value: ValueId) {
     note_definition(found, told, Seen::CallResult);
     match find_stale_return(found, told, value) {
         Ok(true) => {}
-        Ok(false) => found.mend(told, Mending::PromiseResult),
+        Ok(false) => {
+            found.mend(told, Mending::PromiseResult);
+            mend_wide(found, told, Mending::PromiseNumberResult)
+        }
         Err(_) => found.refuse(),
+    }
+}
+
+/// A further way where the wide forms may stand.
+fn mend_wide(found: &mut Draft, told: &Told, mending: Mending) {
+    if told.scene.context.module().wide {
+        found.mend(told, mending)
     }
 }
 

@@ -3,11 +3,13 @@
 pub(crate) const K1: &str = "\
 K1  Each operand is available where it is used.
 
-A value is known to be a number, a reference, or the address of words of a cell
-to which an available reference leads. In a block that is entered from others it
-is known by the claims of the certificate at that block. Slots, globals and
-constants are available everywhere. A parameter or a result of type `ptr` is a
-reference where the certificate says of which layout (`ref L`).
+A value is known to be a number, a reference, an address outside of the module,
+or the address of words of a cell to which an available reference leads. In a
+block that is entered from others it is known by the claims of the certificate
+at that block. Slots, globals and constants are available everywhere. A
+parameter or a result of type `ptr` is a reference where the certificate says of
+which layout (`ref L`), and with `--forms wide` an address outside where it says
+`i64`.
 
 Why: Otherwise a register could be used that was never set on the way taken, or
 that two edges into the block set to different kinds of values.
@@ -47,13 +49,19 @@ under `ptr` these words are references of one layout. The number of dg_alloc is
 a constant that means a layout: the struct at this place of the text, from 0, or
 where the certificate has lines `number` the layout of its line. An address is
 allowed only as the place of a load, a store, gcread or gcwrite, or as the
-operand of getelementptr or bitcast. A global is the address of its word, so its
-value has to be loaded. What is outside of the module is no value: a function
-outside takes it, and numbers and null, and nothing else does.
+operand of getelementptr or bitcast; with `--forms wide` also as an entry of a
+phi, of which nothing is known then. A global is the address of its word, so its
+value has to be loaded. With `--forms wide` a pointer may be an address outside
+of the module. Numbers and addresses outside are loaded and stored there, and no
+reference is, null neither. Such an address is compared with another one or with
+null, chosen with another one, passed on and returned, and it is the base of a
+getelementptr. No cell, no global and no slot takes it. A function outside takes
+it, numbers and null, and nothing else.
 
 Why: What the collector follows as a reference has to be one, and a cell's words
 have to be those of its layout. An address is no reference that could be kept:
-neither a slot nor a word could hold it.
+neither a slot nor a word could hold it. The collector sees nothing outside of
+the module, so no reference is kept there.
 
 Refused: `dgc check` prints `no @empty %entry 0 K2`.
 
@@ -201,9 +209,10 @@ K5  A getelementptr leads to words of the layout.
 The first index is the constant 0, and another one comes after it. An index into
 a struct is one of its fields. An index into an array is a constant below its
 length, or a register that is known to be below a number that is at most the
-length. A global has one word. The result of one on null may not be used (K1).
-An offset in bytes, `getelementptr i8, ptr %n, i64 8`, is refused: a field is
-named by its index.
+length. A global has one word. From an address outside of the module it leads
+anywhere, and nothing of this is asked. The result of one on null may not be
+used (K1). An offset in bytes, `getelementptr i8, ptr %n, i64 8`, is refused: a
+field is named by its index.
 
 Why: A word outside the cell would be another cell's. What is put there by one
 type could be read by another, and the collector would follow it.

@@ -38,7 +38,9 @@ pub(crate) const K12: &str = "\
 K12  A function that moves references has a shadow stack.
 
 One that takes, returns, loads, stores, chooses or passes a reference is written
-with `gc \"shadow-stack\"`. The first instruction of the function is named.
+with `gc \"shadow-stack\"`. The types that are written tell it, so an address
+outside of the module counts too where its type is one of references. The first
+instruction of the function is named.
 
 Why: The collector finds the root slots of a frame through the shadow stack.
 Without one they would not be handed over.
@@ -71,8 +73,9 @@ See also: K8 (root slots)
 pub(crate) const K13: &str = "\
 K13  What is promised of a parameter is known of the argument.
 
-It is also asked of the arguments with which a thread starts (`dgc replay`,
-`soak` and `run`).
+An argument is an address outside of the module exactly where `i64` is promised
+of a pointer, and null is none. What is promised is also asked of the arguments
+with which a thread starts (`dgc replay`, `soak` and `run`).
 
 Why: A function is checked with its `param` lines as facts, so each caller has
 to keep them.
@@ -117,6 +120,9 @@ See also: K14 (promises of results), docs/CERTIFICATES.md
 
 pub(crate) const K14: &str = "\
 K14  What is promised of the result is known where the function returns.
+
+What is returned is an address outside of the module exactly where `i64` is
+promised of a pointer, and null is none.
 
 Why: Callers go on with the `result` line as a fact. Here dg_alloc gives null
 where each of its tries found no free cell.
@@ -288,10 +294,12 @@ The runtime's functions are dg_alloc, dg_safepoint and the intrinsics gcroot,
 gcread and gcwrite. Each has to be declared with its own types. With `--forms
 wide` LLVM's functions of integers and of floating point numbers, as
 llvm.smax.i32 and llvm.sqrt.f64, are called so too, and so is a function that is
-only declared and gives a number or nothing, if the certificate has `foreign @f
-none`. A call with another number of arguments is refused too. In such a call
-gcroot may still name a slot, gcread and gcwrite an address, and each function
-an address outside, so that K18 is what is told.
+only declared and gives a number, a pointer or nothing, if the certificate has
+`foreign @f none`. The pointer is taken for an address outside of the module. A
+call with another number of arguments is refused too. In such a call gcroot may
+still name a slot, gcread and gcwrite an address, and each function an address
+outside, so that K18 is what is told. A function that is only declared may get
+addresses outside past its parameters, as `...` allows.
 
 Why: Of any other function nothing is known: it could reach a safepoint, keep a
 reference, or store one without a barrier. A line `foreign` promises that it
@@ -340,7 +348,8 @@ pointers `%L*` and `i8*` are references to a cell of L, and `%L**` and `i8**`
 are places of such references. The same holds of a global that is used under
 another type, `bitcast (%Node** @g to i8**)`. With `--forms wide` a number may
 become one of another type of as many bits, as a `double` becomes an `i64`, but
-a constant may not.
+a constant may not. An address outside of the module may become one of each
+pointer type.
 
 Why: By another type a word would be taken for what it is not, and the collector
 would follow a number, or miss a reference.

@@ -1,5 +1,5 @@
 -- What the claims of a certificate give and ask.
-use Rattle.std.specs.Prelude.{ℕ, ◌==◌, Bool, true, false, not, ◌&&◌, ◌||◌, List, [], ◌∷◌, map, nat_le, Option, Some, None}
+use Rattle.std.specs.Prelude.{ℕ, ◌==◌, Bool, true, false, not, ◌&&◌, ◌||◌, if◌then◌else◌, List, [], ◌∷◌, map, nat_le, Option, Some, None}
 use Rattle.std.specs.List.{list_all, enumerate_from, zip}
 use Rattle.pools.specs.WordSets.{has_all}
 use Rattle.shadow_stack.specs.Slots.{SlotTable, slot_of}
@@ -133,6 +133,11 @@ abbrev pub promised_nonnull : Option Promise → Bool
 promised_nonnull None = false
 promised_nonnull (Some promise) = promise.nonnull
 
+-- a pointer is promised to be an address outside, a number of 64 bits
+abbrev pub promised_number : Option Promise → Bool
+promised_number None = false
+promised_number (Some promise) = promise.number
+
 -- the layout that a promise says
 abbrev pub promised_layout : Option Promise → Option ℕ
 promised_layout None = None
@@ -143,12 +148,16 @@ abbrev pub receive_reference : ℕ → (layout : Option ℕ) → (nonnull : Bool
 receive_reference v None nonnull f = define v Nothing f
 receive_reference v (Some layout) nonnull f = define_new v layout (record { nonnull = nonnull; fresh = false }) f
 
--- a parameter, or the result of a call, of a type that gives this, with what is promised of it
+-- a parameter, or the result of a call, of a type that gives this, with what is promised of it besides
+abbrev pub receive_given : ℕ → Given → Option Promise → FactSet → FactSet
+receive_given v given.Nothing promise f = define v Nothing f
+receive_given v (given.Number bits) promise f = define v (Number bits (promised_below promise)) f
+receive_given v (given.Reference layout) promise f = receive_reference v (Some layout) (promised_nonnull promise) f
+receive_given v given.AnyReference promise f = receive_reference v (promised_layout promise) (promised_nonnull promise) f
+
+-- the same; a number is promised of an address outside
 abbrev pub receive : ℕ → Given → Option Promise → FactSet → FactSet
-receive v given.Nothing promise f = define v Nothing f
-receive v (given.Number bits) promise f = define v (Number bits (promised_below promise)) f
-receive v (given.Reference layout) promise f = receive_reference v (Some layout) (promised_nonnull promise) f
-receive v given.AnyReference promise f = receive_reference v (promised_layout promise) (promised_nonnull promise) f
+receive v given promise f = if promised_number promise then define v (Number 64 None) f else receive_given v given promise f
 
 -- the parameters in order, each with what its type gives and what is promised
 abbrev pub receive_all : List (ℕ × Given × Option Promise) → FactSet → FactSet

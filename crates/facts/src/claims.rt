@@ -2,7 +2,7 @@
 ghost use Rattle.std.specs.Prelude.{◌≡◌, ◌==◌, ℕ, true, length, OnOk, OnErr};
 ghost use Rattle.facts.specs.Contents.{set_of};
 ghost use Rattle.facts.specs.Facts.{nothing_known};
-ghost use Rattle.facts.specs.Claims.{is_stale, is_fresh, list_value, list_slot, list_claim, list_claims, join, join_known, join_values, tie_value, tie_fact, tie_claim, tie_claims, hold_known, hold_value, hold_claim, hold_claims, facts_of_claims, promised_below, promised_nonnull, promised_layout, receive_reference, receive};
+ghost use Rattle.facts.specs.Claims.{is_stale, is_fresh, list_value, list_slot, list_claim, list_claims, join, join_known, join_values, tie_value, tie_fact, tie_claim, tie_claims, hold_known, hold_value, hold_claim, hold_claims, facts_of_claims, promised_below, promised_nonnull, promised_layout, promised_number, receive_reference, receive_given, receive};
 ghost use Rattle.fact_tables.specs.Ties.{AreTies, class_now, known_now};
 ghost use Rattle.facts.specs.Tied.{is_own, AreOwn, class_of_both, facts_now, settle_value};
 
@@ -25,6 +25,22 @@ impl Facts {
         promise: Option<Promise>,
     ) -> Result<(), AllocError>
         ensures ok { OnOk result (self.new ≡ receive v given promise self.old) }
+        ensures err { OnErr result (self.new ≡ self.old) }
+    {
+        if promised_number(&promise) {
+            let bits = 64;
+            return self.define(v, Known::Number { bits, below: None });
+        }
+        self.receive_given(v, given, promise)
+    }
+
+    fn receive_given(
+        &mut self,
+        v: ValueId,
+        given: Given,
+        promise: Option<Promise>,
+    ) -> Result<(), AllocError>
+        ensures ok { OnOk result (self.new ≡ receive_given v given promise self.old) }
         ensures err { OnErr result (self.new ≡ self.old) }
     {
         match given {
@@ -394,6 +410,15 @@ fn promised_nonnull(promise: &Option<Promise>) -> bool
 {
     match promise {
         Some(promise) => promise.nonnull,
+        None => false,
+    }
+}
+
+fn promised_number(promise: &Option<Promise>) -> bool
+    ensures { result ≡ promised_number promise.now }
+{
+    match promise {
+        Some(promise) => promise.number,
         None => false,
     }
 }

@@ -34,13 +34,23 @@ fn is_of_pointers(word: &[u8]) -> bool {
     )
 }
 
+/// Whether a word says that a pointer is an address outside, which may be said with the wide forms.
+fn is_of_outside(of_module: &Module, word: &[u8]) -> bool {
+    of_module.wide && word == b"i64".as_slice()
+}
+
+/// Whether a word does not fit a pointer.
+fn misfits_pointer(of_module: &Module, word: &[u8]) -> bool {
+    is_of_integers(word) && !is_of_outside(of_module, word)
+}
+
 /// Whether a word of a certificate does not fit values of a type.
 fn misfits(of_module: &Module, word: &[u8], written: TypeId) -> bool {
     match of_module.types.get(written) {
         Some(IrType::Integer(_)) => {
             is_of_pointers(word) || (is_of_integers(word) && word != b"below".as_slice())
         }
-        Some(IrType::Pointer(_) | IrType::Opaque) => is_of_integers(word),
+        Some(IrType::Pointer(_) | IrType::Opaque) => misfits_pointer(of_module, word),
         _ => false,
     }
 }
@@ -51,7 +61,9 @@ fn misfit_of(of_module: &Module, word: &[u8], sort: LocalSort) -> Option<Misfit>
         LocalSort::Value(written) if misfits(of_module, word, written) => Some(Misfit {
             written: Some(written),
         }),
-        LocalSort::Element { .. } if is_of_integers(word) => Some(Misfit { written: None }),
+        LocalSort::Element { .. } if misfits_pointer(of_module, word) => {
+            Some(Misfit { written: None })
+        }
         _ => None,
     }
 }

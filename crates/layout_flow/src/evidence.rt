@@ -23,8 +23,14 @@ pub struct Evidence {
     pub given: Vec<(u32, LayoutId)>,
     /// Values of which some use asks this layout.
     pub wanted: Vec<(u32, LayoutId)>,
+    /// Values that are addresses outside of the module, wherever they go.
+    pub outside: Vec<u32>,
+    /// Bases of a getelementptr that names no struct.
+    pub bare: Vec<u32>,
     /// Each value with one that it may become.
     pub flows: Vec<(usize, u32)>,
+    /// Each base of a getelementptr with its value: where that is an address outside, so is this.
+    pub elements: Vec<(usize, u32)>,
     /// Each reference with the place of a use of its cell.
     pub bases: Vec<(usize, u32)>,
     pub uses: Vec<WordUse>,
@@ -37,7 +43,10 @@ impl Evidence {
         Evidence {
             given: Vec::new(alloc),
             wanted: Vec::new(alloc),
+            outside: Vec::new(alloc),
+            bare: Vec::new(alloc),
             flows: Vec::new(alloc),
+            elements: Vec::new(alloc),
             bases: Vec::new(alloc),
             uses: Vec::new(alloc),
             integers: Vec::new(alloc),
@@ -53,6 +62,24 @@ impl Evidence {
     /// Some use of a value asks a layout.
     pub fn add_wanted(&mut self, value: u32, layout: LayoutId) -> Result<(), AllocError> {
         self.wanted.push((value, layout))?;
+        Ok(())
+    }
+
+    /// A value is an address outside, wherever it goes.
+    pub fn add_outside(&mut self, value: u32) -> Result<(), AllocError> {
+        self.outside.push(value)?;
+        Ok(())
+    }
+
+    /// A getelementptr that names no struct has this base.
+    pub fn add_bare(&mut self, base: u32) -> Result<(), AllocError> {
+        self.bare.push(base)?;
+        Ok(())
+    }
+
+    /// A getelementptr of a base gives a value.
+    pub fn add_element(&mut self, base: u32, value: u32) -> Result<(), AllocError> {
+        self.elements.push((base as usize, value))?;
         Ok(())
     }
 

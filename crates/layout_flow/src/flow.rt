@@ -7,9 +7,20 @@ use number_tables::row_or;
 use pools::LayoutId;
 use std::alloc::{AllocError, Global};
 
-/// The layouts of a module's values of type `i8*` and `ptr`, and of what its functions return of these types. They are found by what
-/// flows in over the whole module: cells that are allocated, what is loaded, arguments and results of calls. Where nothing flows in
-/// they are found by what the uses ask.
+/// Where a value of type `i8*` or `ptr` leads.
+#[derive(Clone, Copy)]
+pub enum Leads {
+    /// To cells of this layout.
+    To(LayoutId),
+    /// Out of the module.
+    Outside,
+    /// To several of these, or it is not known.
+    Nowhere,
+}
+
+/// The layouts of a module's values of type `i8*` and `ptr`, and of what its functions return of these types, and which of them are
+/// addresses outside of the module. They are found by what flows in over the whole module: cells that are allocated, names outside,
+/// what is loaded, arguments and results of calls. Where nothing flows in they are found by what the uses ask.
 #[derive(Drop)]
 pub struct LayoutFlow {
     numbers: ValueNumbers,
@@ -34,21 +45,24 @@ impl LayoutFlow {
         }
     }
 
-    /// The layout of a value; None where several flow in.
-    pub fn of_value(&self, func: FuncId, value: ValueId) -> Option<LayoutId> {
-        self.layout(self.numbers.of_value(func, value))
+    /// Where a value leads.
+    pub fn of_value(&self, func: FuncId, value: ValueId) -> Leads {
+        self.leads(self.numbers.of_value(func, value))
     }
 
-    /// The layout of what a function returns; None where it returns several.
-    pub fn of_result(&self, func: FuncId) -> Option<LayoutId> {
-        self.layout(self.numbers.of_result(func))
+    /// Where what a function returns leads.
+    pub fn of_result(&self, func: FuncId) -> Leads {
+        self.leads(self.numbers.of_result(func))
     }
 
-    fn layout(&self, number: u32) -> Option<LayoutId> {
-        match row_or(&self.found, number as usize, Found::Nothing) {
-            Found::Nothing => self.otherwise,
-            Found::One(layout) => Some(layout),
-            Found::Several => None,
+    fn leads(&self, number: u32) -> Leads {
+        match (
+            row_or(&self.found, number as usize, Found::Nothing),
+            self.otherwise,
+        ) {
+            (Found::One(layout), _) | (Found::Nothing, Some(layout)) => Leads::To(layout),
+            (Found::Outside, _) => Leads::Outside,
+            (Found::Several, _) | (Found::Nothing, None) => Leads::Nowhere,
         }
     }
 }

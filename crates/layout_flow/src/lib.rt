@@ -10,4 +10,4 @@ mod numbers;
 mod reading;
 mod spread;
 
-pub use flow::LayoutFlow;
+pub use flow::{LayoutFlow, Leads};

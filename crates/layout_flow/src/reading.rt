@@ -8,9 +8,10 @@ use ir_ast::{
 };
 use layout::{Program, Step};
 use number_tables::{put, row_or};
+use outside_names::is_outside_operand;
 use pools::LayoutId;
 use std::alloc::{AllocError, Global};
-use types::{layout_meant, runtime_called};
+use types::{is_outside, layout_meant, runtime_called};
 
 /// Where a pointer leads, as far as the text of its function tells.
 #[derive(Clone, Copy)]
@@ -22,6 +23,8 @@ enum Place {
     Word { base: u32, word: u32 },
     /// To a slot of integers.
     Integers,
+    /// Outside of the module.
+    Outside,
 }
 
 /// A walk over the functions of a module.
@@ -211,6 +214,7 @@ impl<'a> Reading<'a> {
         match self.place_of(place) {
             Place::Unknown | Place::Integers => Ok(()),
             Place::Holds(layout) => self.evidence.add_given(value, layout),
+            Place::Outside => self.evidence.add_outside(value),
             Place::Word { base, word } => {
                 let access = Access::Load;
                 self.evidence.add_use(
@@ -231,7 +235,7 @@ impl<'a> Reading<'a> {
         };
         let value = self.number(*value);
         match self.place_of(place) {
-            Place::Unknown | Place::Integers => Ok(()),
+            Place::Unknown | Place::Integers | Place::Outside => Ok(()),
             Place::Holds(layout) => self.evidence.add_wanted(value, layout),
             Place::Word { base, word } => {
                 let access = Access::Store;
@@ -261,7 +265,23 @@ impl<'a> Reading<'a> {
                 }
             }
             Callee::Runtime(runtime) => self.runtime_call(runtime, arguments, defined),
+            Callee::Outside => self.given_outside(call.returned, defined),
             Callee::Unknown => Ok(()),
+        }
+    }
+
+    /// A pointer that a function outside gives is an address outside.
+    fn given_outside(
+        &mut self,
+        returned: TypeId,
+        defined: Option<ValueId>,
+    ) -> Result<(), AllocError> {
+        match defined {
+            Some(value) if self.kinds.is_any(returned) => {
+                let value = self.number(value);
+                self.evidence.add_outside(value)
+            }
+            _ => Ok(()),
         }
     }
 
@@ -306,15 +326,32 @@ impl<'a> Reading<'a> {
     }
 
     fn element(&mut self, element: &Element, value: ValueId) -> Result<(), AllocError> {
+        if is_outside_operand(self.module_read(), &element.base) {
+            let value = self.number(value);
+            return self.evidence.add_outside(value);
+        }
         let Operand::Local(base) = &element.base else {
             return Ok(());
         };
         if !self.kinds.is_any(element.base_type) {
             return Ok(());
         }
+        let (from, to) = (self.number(*base), self.number(value));
+        self.evidence.add_element(from, to)?;
+        self.bare(from, element.source)?;
         self.want_struct(*base, element.source)?;
         self.place_element(element, value);
         Ok(())
+    }
+
+    /// A getelementptr of this base and type. Where the wide forms may stand and it names no struct, the base may be an address outside.
+    fn bare(&mut self, base: u32, source: TypeId) -> Result<(), AllocError> {
+        let module = self.module_read();
+        if module.wide && layout_of_struct(module, source).is_none() {
+            self.evidence.add_bare(base)
+        } else {
+            Ok(())
+        }
     }
 
     /// An element of a struct asks the layout of the struct of its base, unless that leads elsewhere.
@@ -426,12 +463,21 @@ impl<'a> Reading<'a> {
                 let from = self.number(*value);
                 self.evidence.add_flow(from, to)
             }
-            _ => Ok(()),
+            operand => {
+                if is_outside_operand(self.module_read(), operand) {
+                    self.evidence.add_outside(to)
+                } else {
+                    Ok(())
+                }
+            }
         }
     }
 
     /// Where an operand leads that is used as a place: a reference leads to the first word of its cell.
     fn place_of(&self, operand: &Operand) -> Place {
+        if is_outside_operand(self.module_read(), operand) {
+            return Place::Outside;
+        }
         match operand {
             Operand::Local(value) => {
                 match self.place(*value) {
@@ -475,6 +521,8 @@ impl<'a> Reading<'a> {
 enum Callee {
     Defined(FuncId),
     Runtime(Runtime),
+    /// A function outside of the module.
+    Outside,
     Unknown,
 }
 
@@ -484,6 +532,7 @@ fn callee_of(module: &Module, symbol: SymbolId) -> Callee {
     }
     match runtime_called(module, symbol) {
         Some(runtime) => Callee::Runtime(runtime),
+        None if is_outside(module, symbol) => Callee::Outside,
         None => Callee::Unknown,
     }
 }

@@ -5,12 +5,15 @@ use number_tables::{Buckets, put, row_or};
 use pools::{LayoutId, Layouts, WordKind};
 use std::alloc::{AllocError, Global};
 
-/// The layouts that flow into a value.
+/// What flows into a value.
 #[derive(Clone, Copy)]
 pub enum Found {
     Nothing,
+    /// References of this layout.
     One(LayoutId),
-    /// More than one.
+    /// Addresses outside of the module.
+    Outside,
+    /// More than one of these.
     Several,
 }
 
@@ -24,6 +27,8 @@ struct Ways<'a> {
     forward: Buckets,
     /// What may become each value.
     backward: Buckets,
+    /// The values of each base's getelementptrs.
+    elements: Buckets,
     /// The places of the uses of each reference's cell.
     cells: Buckets,
 }
@@ -102,12 +107,19 @@ impl<'a> Ways<'a> {
             drop(cells);
             return Err(AllocError);
         };
+        let Ok(elements) = Buckets::of(alloc, &evidence.elements, count) else {
+            drop(forward);
+            drop(cells);
+            drop(backward);
+            return Err(AllocError);
+        };
         Ok(Ways {
             layouts,
             words,
             uses: &evidence.uses,
             forward,
             backward,
+            elements,
             cells,
         })
     }
@@ -158,16 +170,36 @@ impl Spread {
         for (value, layout) in evidence.given.as_slice() {
             self.join(*value, Found::One(*layout))?;
         }
-        for at in 0..usize::MAX {
-            let Some(value) = self.queue.get(at).copied() else {
-                break;
-            };
-            self.pass_forward(ways, value)?;
+        for value in evidence.outside.as_slice() {
+            self.join(*value, Found::Outside)?;
         }
-        self.queue.clear();
+        self.flow_on(ways)?;
         self.ask(ways, evidence)?;
         self.pass_all(ways)?;
+        self.lead_out(ways, evidence)?;
         self.guess(ways, evidence)
+    }
+
+    /// What is found of the values that wait flows on.
+    fn flow_on(&mut self, ways: &Ways<'_>) -> Result<(), AllocError> {
+        for _ in 0..usize::MAX {
+            let Some(value) = self.queue.get(self.passed).copied() else {
+                break;
+            };
+            self.passed = self.passed.saturating_add(1);
+            self.pass_forward(ways, value)?;
+        }
+        Ok(())
+    }
+
+    /// What is left, and is the base of a getelementptr that names no struct, is taken to be an address outside.
+    fn lead_out(&mut self, ways: &Ways<'_>, evidence: &Evidence) -> Result<(), AllocError> {
+        for base in evidence.bare.as_slice() {
+            if let Found::Nothing = self.found_of(*base) {
+                self.join(*base, Found::Outside)?;
+            }
+        }
+        self.flow_on(ways)
     }
 
     /// Passes on what the values are taken to be that wait.
@@ -194,6 +226,11 @@ impl Spread {
         for place in ways.cells.group(value as usize) {
             self.join_loaded(ways, self.found_of(value), *place)?;
         }
+        if let Found::Outside = self.found_of(value) {
+            for element in ways.elements.group(value as usize) {
+                self.join(*element, Found::Outside)?;
+            }
+        }
         Ok(())
     }
 
@@ -216,7 +253,16 @@ impl Spread {
         match found {
             Found::Nothing => Ok(()),
             Found::One(layout) => self.join_one(value, layout),
+            Found::Outside => self.join_outside(value),
             Found::Several => self.join_several(value),
+        }
+    }
+
+    fn join_outside(&mut self, value: u32) -> Result<(), AllocError> {
+        match self.found_of(value) {
+            Found::Nothing => self.set(value, Found::Outside),
+            Found::One(_) => self.set(value, Found::Several),
+            Found::Outside | Found::Several => Ok(()),
         }
     }
 
@@ -230,13 +276,14 @@ impl Spread {
                     self.set(value, Found::Several)
                 }
             }
+            Found::Outside => self.set(value, Found::Several),
             Found::Several => Ok(()),
         }
     }
 
     fn join_several(&mut self, value: u32) -> Result<(), AllocError> {
         match self.found_of(value) {
-            Found::Nothing | Found::One(_) => self.set(value, Found::Several),
+            Found::Nothing | Found::One(_) | Found::Outside => self.set(value, Found::Several),
             Found::Several => Ok(()),
         }
     }
@@ -283,7 +330,7 @@ impl Spread {
         }
         let asked = match self.found_of(word_use.value) {
             Found::One(layout) => FirstWord::Reference(layout.number()),
-            Found::Nothing | Found::Several => FirstWord::AnyReference,
+            Found::Nothing | Found::Outside | Found::Several => FirstWord::AnyReference,
         };
         self.fill(base, ways.layout_with(asked))?;
         self.pass_all(ways)

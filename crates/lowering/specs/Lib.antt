@@ -5,6 +5,7 @@ pub mod Elements
 pub mod Calls
 pub mod Instructions
 pub mod Ends
+pub mod Outside
 pub mod Items
 pub mod Rows
 pub mod Strings

@@ -8,6 +8,7 @@ mod ends;
 mod instructions;
 mod items_of_text;
 mod memory;
+mod outside;
 mod printer;
 mod rows;
 mod scope;
@@ -17,4 +18,5 @@ mod tables;
 mod word_types;
 mod words;
 
+pub use outside::address_giver;
 pub use printer::lower;

@@ -37,7 +37,6 @@ use Rattle.types.specs.Elements.{element_type}
 use Rattle.types.specs.LayoutNumbers.{layout_meant}
 use Rattle.types.specs.References.{pointee, is_opaque}
 use Rattle.types.specs.RuntimeCall.{runtime_called}
-use Rattle.outside_names.specs.Operands.{is_outside_operand}
 use Rattle.types.specs.ValueTypes.{target_of}
 use Rattle.shadow_stack.specs.Slots.{SlotTable, operand_slot, held_type, slot_layout}
 use Rattle.machine.specs.declared.value.Pointee.{Pointee}
@@ -46,7 +45,7 @@ use Rattle.machine.specs.declared.value.Value.{Value}
 use Rattle.machine.specs.declared.value.Value.TheVariants as value
 use Rattle.machine.specs.declared.action.Action.{Action}
 use Rattle.machine.specs.declared.action.Action.TheVariants.{Local, Foreign, Read, Write, StorePlain, Alloc, Safepoint, End, Wrong}
-use Rattle.machine.specs.Kinds.{is_integer, is_integer_of, is_void, is_pointer_type, is_null_operand, bits_of, is_byte_pointer, is_place_of_bytes, leads_to, may_refer, may_lead, refers_to, may_cast_word, bits_at, is_set, is_reference, fits_layout_of, are_of_one_layout, number_in, value_of, is_typed, is_usable, is_usable_number, is_local_of, slot_at_place, address_at_place}
+use Rattle.machine.specs.Kinds.{is_integer, is_integer_of, is_void, is_pointer_type, bits_of, is_byte_pointer, is_place_of_bytes, leads_to, may_refer, may_lead, refers_to, may_cast_word, bits_at, is_set, is_reference, fits_layout_of, are_of_one_layout, number_in, value_of, is_typed, is_usable, is_usable_number, is_usable_outside, is_null_at, is_number, is_local_of, slot_at_place, address_at_place}
 use Rattle.machine.specs.Integers.{may_resize, is_equality}
 use Rattle.machine.specs.Elements.{element_offset, element_place, globals_cell, global_kind, is_read_as, takes_value}
 use Rattle.machine.specs.Jumps.{phis_of, phis_fit, switch_edge, cases_fit}
@@ -79,11 +78,16 @@ may_cast_place p to place.OfNull = may_lead p.of_module to
 may_cast_place p to (place.Word layout at word) = may_cast_word p.of_module to (kind_of_word p.layouts layout word)
 may_cast_place p to (place.Global g) = may_cast_word p.of_module to (global_kind p.of_module g)
 
--- a value may be cast to another type: a number to one of as many bits, a reference to i8* or to a reference of its layout, null also from place to place, an address as above
+-- a number may be cast to one of as many bits; an address outside to each pointer type
+abbrev pub may_cast_number : Module → (from to : ℕ) → Bool
+may_cast_number m from to =
+    (is_integer (slice_get m.types from) && (is_integer (slice_get m.types to) && (bits_at m from == bits_at m to)))
+    || (is_pointer_type (slice_get m.types from) && is_pointer_type (slice_get m.types to))
+
+-- a value may be cast to another type: a number as above, a reference to i8* or to a reference of its layout, null also from place to place, an address as above
 abbrev pub may_cast_value : LaidOut → (from to : ℕ) → Value → Bool
 may_cast_value p from to value.Unset = false
-may_cast_value p from to (value.Number n) =
-    is_integer (slice_get p.of_module.types from) && (is_integer (slice_get p.of_module.types to) && (bits_at p.of_module from == bits_at p.of_module to))
+may_cast_value p from to (value.Number n) = may_cast_number p.of_module from to
 may_cast_value p from to value.Null = may_refer p.of_module to || (may_lead p.of_module from && may_lead p.of_module to)
 may_cast_value p from to (value.Cell layout at) = refers_to p.of_module layout to
 may_cast_value p from to (value.Address at) = may_cast_place p to at
@@ -152,12 +156,20 @@ abbrev pub are_integers : Module → Function → SlotTable → List Value → L
 are_integers m f slots registers arguments = list_all (λ argument. is_usable_number m f slots registers argument.written argument.operand) arguments
 
 -- a getelementptr leads to a part of the type, and to a word of the cell
-abbrev pub element_action : LaidOut → Function → SlotTable → List Value → Element → Action
-element_action p f slots registers x =
-    only_if (is_typed p.of_module f slots x.base_type x.base
+abbrev pub leads_inside : LaidOut → Function → SlotTable → List Value → Element → Bool
+leads_inside p f slots registers x =
+    is_typed p.of_module f slots x.base_type x.base
     && (are_integers p.of_module f slots registers x.indices
     && (is_some (element_type p.of_module x.source x.indices)
-    && is_some (element_place p (element_offset p registers x.source x.indices) (value_of p.of_module registers x.base_type x.base))))) Local
+    && is_some (element_place p (element_offset p registers x.source x.indices) (value_of p.of_module registers x.base_type x.base))))
+
+-- a getelementptr of an address outside leads wherever its indices say
+abbrev pub leads_outside : Module → Function → SlotTable → List Value → Element → Bool
+leads_outside m f slots registers x = is_usable_outside m f slots registers x.base_type x.base && are_integers m f slots registers x.indices
+
+-- a getelementptr
+abbrev pub element_action : LaidOut → Function → SlotTable → List Value → Element → Action
+element_action p f slots registers x = only_if (leads_inside p f slots registers x || leads_outside p.of_module f slots registers x) Local
 
 -- two operands of a type are numbers
 abbrev pub are_numbers : Module → Function → SlotTable → List Value → (written : ℕ) → (first second : Operand) → Bool
@@ -171,16 +183,27 @@ are_references m f slots registers written first second =
     && ((is_typed m f slots written first && is_reference (value_of m registers written first))
     && (is_typed m f slots written second && is_reference (value_of m registers written second)))
 
+-- an address outside is compared with another one, or with null
+abbrev pub compares_outside : Module → Function → SlotTable → List Value → (written : ℕ) → (first second : Operand) → Bool
+compares_outside m f slots registers written first second =
+    (is_usable_outside m f slots registers written first && (is_usable_outside m f slots registers written second || is_null_at m written second))
+    || (is_null_at m written first && is_usable_outside m f slots registers written second)
+
 -- an icmp of two numbers, or of two references, which are only compared for equality
 abbrev pub may_compare : Module → Function → SlotTable → List Value → Comparison → (written : ℕ) → (first second : Operand) → Bool
 may_compare m f slots registers kind written first second =
     are_numbers m f slots registers written first second || (is_equality kind && are_references m f slots registers written first second)
 
--- a select of one of two numbers, or of two references of one layout
+-- two operands of a type are addresses outside
+abbrev pub are_outside : Module → Function → SlotTable → List Value → (written : ℕ) → (first second : Operand) → Bool
+are_outside m f slots registers written first second = is_usable_outside m f slots registers written first && is_usable_outside m f slots registers written second
+
+-- a select of one of two numbers, of two references of one layout, or of two addresses outside
 abbrev pub may_select : Module → Function → SlotTable → List Value → (written : ℕ) → (chosen other : Operand) → Bool
 may_select m f slots registers written chosen other =
     are_numbers m f slots registers written chosen other
-    || (are_references m f slots registers written chosen other && are_of_one_layout (value_of m registers written chosen) (value_of m registers written other))
+    || ((are_references m f slots registers written chosen other && are_of_one_layout (value_of m registers written chosen) (value_of m registers written other))
+    || are_outside m f slots registers written chosen other)
 
 -- a condition is an i1
 abbrev pub is_condition : Module → Function → SlotTable → List Value → (written : ℕ) → Operand → Bool
@@ -334,21 +357,27 @@ defined_action m f slots registers returned arguments (Some callee) =
 
 -- ---- calls of functions outside
 
--- what a function outside gives, by its type: nothing, or a number
+-- a number from outside, by its type; an address outside is one of 64 bits
+abbrev pub asked_given : Option IrType → Action
+asked_given t = if is_integer t then Foreign (bits_of t) else (if is_pointer_type t then Foreign 64 else Wrong)
+
+-- what a function outside gives, by its type: nothing, a number or an address outside
 abbrev pub asked_outside : Option IrType → Action
-asked_outside t = if is_void t then Local else (if is_integer t then Foreign (bits_of t) else Wrong)
+asked_outside t = if is_void t then Local else asked_given t
 
 -- null or an address outside, written at a pointer type
-abbrev pub is_address_argument : Module → Argument → Bool
-is_address_argument m argument = (is_null_operand argument.operand || is_outside_operand m argument.operand) && is_pointer_type (slice_get m.types argument.written)
+abbrev pub is_address_argument : Module → Function → SlotTable → List Value → Argument → Bool
+is_address_argument m f slots registers argument = is_null_at m argument.written argument.operand || is_usable_outside m f slots registers argument.written argument.operand
 
--- a function outside takes numbers, null and addresses outside, of its parameters' types
+-- a function outside takes numbers, null and addresses outside, of its parameters' types; past its parameters it takes addresses outside, as the dots of a declaration allow
 abbrev pub are_outside_arguments : Module → Function → SlotTable → List Value → List ℕ → List Argument → Bool
 are_outside_arguments m f slots registers [] [] = true
+are_outside_arguments m f slots registers [] (argument ∷ arguments) =
+    is_usable_outside m f slots registers argument.written argument.operand && are_outside_arguments m f slots registers [] arguments
 are_outside_arguments m f slots registers (type ∷ types) (argument ∷ arguments) =
-    (argument.written == type) && ((is_usable_number m f slots registers argument.written argument.operand || is_address_argument m argument)
+    (argument.written == type) && ((is_usable_number m f slots registers argument.written argument.operand || is_address_argument m f slots registers argument)
     && are_outside_arguments m f slots registers types arguments)
-are_outside_arguments m f slots registers _ _ = false
+are_outside_arguments m f slots registers (type ∷ types) [] = false
 
 -- a call of a declared function of a wide text, with its types; other names are those of defined functions
 abbrev pub outside_action : Module → Function → SlotTable → List Value → (returned : ℕ) → List Argument → Option Declare → (callee : Option Function) → Action
@@ -438,37 +467,43 @@ float_bits m (float.Negate written o) = bits_at m written
 float_bits m (float.Compare kind written first second) = 1
 float_bits m (float.Convert kind from o to) = bits_at m to
 
--- an operation on numbers gives a number: its operands are set and of its types; a comparison for equality may be one of references
+-- an operation on numbers gives a number: its operands are set and of its types; a comparison for equality may be one of references, and each may be one of addresses outside
 abbrev pub gives_number : Module → Function → SlotTable → List Value → NumberOp → Bool
 gives_number m f slots registers (number.Arithmetic kind written first second) = are_numbers m f slots registers written first second
 gives_number m f slots registers (number.Resize kind written o to) =
     is_usable_number m f slots registers written o && (is_integer (slice_get m.types to) && may_resize kind (bits_at m written) (bits_at m to))
-gives_number m f slots registers (number.Compare kind written first second) = may_compare m f slots registers kind written first second
+gives_number m f slots registers (number.Compare kind written first second) = may_compare m f slots registers kind written first second || compares_outside m f slots registers written first second
 gives_number m f slots registers (number.Float x) = gives_float m f slots registers x
 
--- what an operation on numbers asks for: one on floating point numbers for a number from outside, one on integers for nothing
-abbrev pub number_asked : Module → NumberOp → Action
-number_asked m (number.Arithmetic kind written first second) = Local
-number_asked m (number.Resize kind written o to) = Local
-number_asked m (number.Compare kind written first second) = Local
-number_asked m (number.Float x) = Foreign (float_bits m x)
+-- what an operation on numbers asks for: one on floating point numbers, and a comparison of addresses outside, for a number from outside, one on integers for nothing
+abbrev pub number_asked : Module → Function → SlotTable → List Value → NumberOp → Action
+number_asked m f slots registers (number.Arithmetic kind written first second) = Local
+number_asked m f slots registers (number.Resize kind written o to) = Local
+number_asked m f slots registers (number.Compare kind written first second) = if compares_outside m f slots registers written first second then Foreign 1 else Local
+number_asked m f slots registers (number.Float x) = Foreign (float_bits m x)
 
 -- an operation on numbers
 abbrev pub number_action : Module → Function → SlotTable → List Value → NumberOp → Action
-number_action m f slots registers x = only_if (gives_number m f slots registers x) (number_asked m x)
+number_action m f slots registers x = only_if (gives_number m f slots registers x) (number_asked m f slots registers x)
 
 -- a select
 abbrev pub choice_action : Module → Function → SlotTable → List Value → Choice → Action
 choice_action m f slots registers x =
     only_if (is_condition m f slots registers x.condition_type x.condition && may_select m f slots registers x.written x.chosen x.other) Local
 
--- an operation on memory
+-- a store outside is of a number or of an address outside
+abbrev pub stores_outside : Module → Function → SlotTable → List Value → (stored : ℕ) → Operand → Bool
+stores_outside m f slots registers stored v = is_usable m f slots registers stored v && is_number (value_of m registers stored v)
+
+-- an operation on memory; what is read outside is from outside, and what is stored there changes nothing here
 abbrev pub memory_action : LaidOut → Function → SlotTable → List Value → MemoryOp → Action
 memory_action p f slots registers (memory.Alloca held) = Local
 memory_action p f slots registers (memory.Load loaded place_type place) =
-    load_action p slots loaded (slot_at_place p.of_module f slots place_type place) (address_at_place p.of_module f slots registers place_type place)
+    if is_usable_outside p.of_module f slots registers place_type place then asked_given (slice_get p.of_module.types loaded)
+    else load_action p slots loaded (slot_at_place p.of_module f slots place_type place) (address_at_place p.of_module f slots registers place_type place)
 memory_action p f slots registers (memory.Store stored v place_type place) =
-    store_action p slots stored (is_usable p.of_module f slots registers stored v) (value_of p.of_module registers stored v)
+    if is_usable_outside p.of_module f slots registers place_type place then only_if (stores_outside p.of_module f slots registers stored v) Local
+    else store_action p slots stored (is_usable p.of_module f slots registers stored v) (value_of p.of_module registers stored v)
     (slot_at_place p.of_module f slots place_type place) (address_at_place p.of_module f slots registers place_type place)
 
 -- a call

@@ -1,5 +1,5 @@
 -- Edges from block to block, and the values that phis take on them.
-use Rattle.std.specs.Prelude.{ℕ, ◌≤◌, ◌==◌, Bool, true, false, ◌&&◌, not, List, [], ◌∷◌, length, slice_get, slice_set, Option, Some, None, if◌then◌else◌}
+use Rattle.std.specs.Prelude.{ℕ, ◌≤◌, ◌==◌, Bool, true, false, ◌&&◌, ◌||◌, not, List, [], ◌∷◌, length, slice_get, slice_set, Option, Some, None, if◌then◌else◌}
 use Rattle.std.specs.List.{list_all}
 use Rattle.ir_ast.specs.declared.block.Block.{Block}
 use Rattle.ir_ast.specs.declared.function.Function.{Function}
@@ -29,10 +29,10 @@ abbrev pub entry_for : Function → (from : ℕ) → List Incoming → Option Op
 entry_for f from [] = None
 entry_for f from (entry ∷ entries) = if is_block from (target_of f entry.from) then Some entry.operand else entry_for f from entries
 
--- an entry is of the written type, and no address; where there is none the phi stays unset
+-- an entry is of the written type, and no address of a global, nor one in a cell where the text may name none outside; where there is none the phi stays unset
 abbrev pub entry_fits : Module → Function → SlotTable → (written : ℕ) → Option Operand → Bool
 entry_fits m f slots written None = true
-entry_fits m f slots written (Some o) = is_no_global o && is_typed m f slots written o && not (is_opaque_address m slots written o)
+entry_fits m f slots written (Some o) = is_no_global m o && is_typed m f slots written o && (m.wide || not (is_opaque_address m slots written o))
 
 -- a phi is an integer or a reference, and its entry for this block is of its type
 abbrev pub phi_fits : Module → Function → SlotTable → (from : ℕ) → Phi → Bool

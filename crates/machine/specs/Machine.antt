@@ -20,6 +20,7 @@ use Rattle.ir_ast.specs.declared.numbers.NumberOp.{NumberOp}
 use Rattle.ir_ast.specs.declared.numbers.NumberOp.TheVariants as number
 use Rattle.ir_ast.specs.declared.op.Op.{Op}
 use Rattle.ir_ast.specs.declared.op.Op.TheVariants as op
+use Rattle.ir_ast.specs.declared.operand.Operand.{Operand}
 use Rattle.ir_ast.specs.declared.runtime.Runtime.{Runtime}
 use Rattle.ir_ast.specs.declared.runtime.Runtime.TheVariants as runtime
 use Rattle.pools.specs.Layouts.{kind_of_word}
@@ -36,12 +37,12 @@ use Rattle.machine.specs.declared.action.Action.TheVariants.{Local, End}
 use Rattle.machine.specs.declared.answer.Answer.{Answer}
 use Rattle.machine.specs.declared.answer.Answer.TheVariants as answer
 use Rattle.machine.specs.declared.frame.Frame.{Frame}
-use Rattle.machine.specs.Kinds.{is_integer, bits_at, number_in, value_of, slot_at_place, address_at_place}
+use Rattle.machine.specs.Kinds.{is_integer, is_number, bits_at, number_in, value_of, is_usable_outside, slot_at_place, address_at_place}
 use Rattle.machine.specs.IntegerFunctions.{function_value}
 use Rattle.machine.specs.Integers.{computed, resized, compares, compares_equal, truth}
 use Rattle.machine.specs.Elements.{element_offset, element_place, address_of, global_kind, read_value}
 use Rattle.machine.specs.Jumps.{put_register, phis_of, put_phis}
-use Rattle.machine.specs.Asks.{number_called, op_action, end_action, edge_of, target_at}
+use Rattle.machine.specs.Asks.{number_called, compares_outside, op_action, end_action, edge_of, target_at}
 
 -- the frames of a thread, the running one first; a thread without a frame has ended
 pub record State : Type 0 where
@@ -142,6 +143,11 @@ read_at p (Some place.OfNull) given = value.Unset
 read_at p (Some (place.Word layout at word)) given = read_value (kind_of_word p.layouts layout word) given
 read_at p (Some (place.Global g)) given = read_value (global_kind p.of_module g) given
 
+-- a number from outside, as it is given
+abbrev pub given_value : Answer → Value
+given_value (answer.Number n) = value.Number n
+given_value given = value.Unset
+
 -- what a load gives: what the slot holds, or what is read at the address
 abbrev pub loaded_from : LaidOut → List Value → Option ℕ → Option Pointee → Answer → Value
 loaded_from p slots (Some slot) address given = slot_value slots slot
@@ -194,11 +200,6 @@ integers_value m registers function bits arguments =
     let taken = λ (n : ℕ). integer_argument m registers (slice_get arguments n) in
     value.Number (function_value function bits (taken 0) (taken 1) (taken 2))
 
--- a number from outside, as it is given
-abbrev pub given_value : Answer → Value
-given_value (answer.Number n) = value.Number n
-given_value given = value.Unset
-
 -- the frame after a call
 abbrev pub after_call : LaidOut → Function → SlotTable → (name : Option ℕ) → List Argument → Option Runtime → Answer → Frame → Frame
 after_call p f slots name arguments (Some runtime.Alloc) given frame = set_register name (alloc_value (layout_of_call p.of_module arguments) given) frame
@@ -209,39 +210,52 @@ after_call p f slots name arguments (Some (runtime.Float function bits)) given f
 after_call p f slots name arguments None given frame = set_register name (given_value given) frame
 after_call p f slots name arguments _ given frame = frame
 
+-- what a comparison gives: one of addresses outside what is given from outside
+abbrev pub comparison_value : (outside : Bool) → Comparison → (bits : ℕ) → (first second : Value) → Answer → Value
+comparison_value outside kind bits first second given = if outside then given_value given else compared kind bits first second
+
 -- what an operation on numbers gives: one on floating point numbers what is given from outside
-abbrev pub number_value : Module → List Value → NumberOp → Answer → Value
-number_value m registers (number.Arithmetic kind written first second) given =
+abbrev pub number_value : Module → Function → SlotTable → List Value → NumberOp → Answer → Value
+number_value m f slots registers (number.Arithmetic kind written first second) given =
     value.Number (computed kind (bits_at m written) (number_in (value_of m registers written first)) (number_in (value_of m registers written second)))
-number_value m registers (number.Resize kind from o to) given = value.Number (resized kind (bits_at m from) (bits_at m to) (number_in (value_of m registers from o)))
-number_value m registers (number.Compare kind written first second) given = compared kind (bits_at m written) (value_of m registers written first) (value_of m registers written second)
-number_value m registers (number.Float x) given = given_value given
+number_value m f slots registers (number.Resize kind from o to) given = value.Number (resized kind (bits_at m from) (bits_at m to) (number_in (value_of m registers from o)))
+number_value m f slots registers (number.Compare kind written first second) given =
+    comparison_value (compares_outside m f slots registers written first second) kind (bits_at m written) (value_of m registers written first) (value_of m registers written second) given
+number_value m f slots registers (number.Float x) given = given_value given
 
 -- what a select gives
 abbrev pub choice_value : Module → List Value → Choice → Value
 choice_value m registers x =
     selected (value_of m registers x.condition_type x.condition) (value_of m registers x.written x.chosen) (value_of m registers x.written x.other)
 
--- the address that a getelementptr gives
+-- the address that a getelementptr gives; from an address outside it is one outside
+abbrev pub address_from : LaidOut → (offset : Option ℕ) → (base : Value) → Value
+address_from p offset base = if is_number base then base else address_of (element_place p offset base)
+
+-- by its operands
 abbrev pub element_address : LaidOut → List Value → Element → Value
-element_address p registers x =
-    address_of (element_place p (element_offset p registers x.source x.indices) (value_of p.of_module registers x.base_type x.base))
+element_address p registers x = address_from p (element_offset p registers x.source x.indices) (value_of p.of_module registers x.base_type x.base)
 
 -- the frame after a bitcast
 abbrev pub after_cast : LaidOut → SlotTable → (name : Option ℕ) → Cast → Frame → Frame
 after_cast p slots name x frame = cast_from name (value_of p.of_module frame.registers x.from x.operand) (operand_slot slots.names x.operand) frame
 
+-- what a load gives, by whether its place is outside
+abbrev pub load_value : LaidOut → Function → SlotTable → Frame → (place_type : ℕ) → Operand → Answer → Value
+load_value p f slots frame place_type place given =
+    if is_usable_outside p.of_module f slots frame.registers place_type place then given_value given
+    else loaded_from p frame.slots (slot_at_place p.of_module f slots place_type place) (address_at_place p.of_module f slots frame.registers place_type place) given
+
 -- the frame after an operation on memory
 abbrev pub after_memory : LaidOut → Function → SlotTable → (name : Option ℕ) → MemoryOp → Answer → Frame → Frame
 after_memory p f slots name (memory.Alloca held) given frame = frame
-after_memory p f slots name (memory.Load loaded place_type place) given frame =
-    set_register name (loaded_from p frame.slots (slot_at_place p.of_module f slots place_type place) (address_at_place p.of_module f slots frame.registers place_type place) given) frame
+after_memory p f slots name (memory.Load loaded place_type place) given frame = set_register name (load_value p f slots frame place_type place given) frame
 after_memory p f slots name (memory.Store stored v place_type place) given frame =
     set_slot (slot_at_place p.of_module f slots place_type place) (value_of p.of_module frame.registers stored v) frame
 
 -- the frame after an instruction that calls no defined function
 abbrev pub after_op : LaidOut → Function → SlotTable → (name : Option ℕ) → Op → Answer → Frame → Frame
-after_op p f slots name (op.Number x) given frame = set_register name (number_value p.of_module frame.registers x given) frame
+after_op p f slots name (op.Number x) given frame = set_register name (number_value p.of_module f slots frame.registers x given) frame
 after_op p f slots name (op.Memory x) given frame = after_memory p f slots name x given frame
 after_op p f slots name (op.Element x) given frame = set_register name (element_address p frame.registers x) frame
 after_op p f slots name (op.Cast x) given frame = after_cast p slots name x frame

@@ -1,15 +1,16 @@
 //! What may be named anew under another type.
-ghost use Rattle.std.specs.Prelude.{◌≡◌, ◌&&◌, ◌==◌, slice_get};
+ghost use Rattle.std.specs.Prelude.{◌≡◌};
 ghost use Rattle.pools.specs.Layouts.{kind_of_word};
 ghost use Rattle.shadow_stack.specs.Slots.{operand_slot};
 ghost use Rattle.machine.specs.Elements.{global_kind};
-ghost use Rattle.machine.specs.Kinds.{is_integer, bits_at};
-ghost use Rattle.machine.specs.Asks.{may_cast_place, may_cast_value, may_cast, is_slot_under, may_cast_slot, cast_action};
+ghost use Rattle.machine.specs.Asks.{may_cast_place, may_cast_number, may_cast_value, may_cast, is_slot_under, may_cast_slot, cast_action};
 
 use crate::action::{Action, only_if};
 use crate::elements::{global_kind, kind_of_word};
 use crate::frame_context::FrameContext;
-use crate::kinds::{bits_at, is_integer, is_set, may_cast_word, may_lead, may_refer, refers_to};
+use crate::kinds::{
+    bits_at, is_integer, is_pointer_type, is_set, may_cast_word, may_lead, may_refer, refers_to,
+};
 use crate::operands::{is_local_of, is_typed, operand_slot, value_of};
 use crate::value::{Pointee, Value};
 use ir_ast::{Cast, Module, TypeId};
@@ -31,12 +32,13 @@ fn may_cast_place(program: &Program, to: TypeId, place: &Pointee) -> bool
     }
 }
 
-/// Whether both types are numbers of as many bits.
-fn are_of_one_width(of_module: &Module, from: TypeId, to: TypeId) -> bool
-    ensures { result ≡ is_integer (slice_get of_module.now.types from) && (is_integer (slice_get of_module.now.types to) && (bits_at of_module.now from == bits_at of_module.now to)) }
+/// Whether a number may be cast: to one of as many bits, or an address outside to another pointer type.
+fn may_cast_number(of_module: &Module, from: TypeId, to: TypeId) -> bool
+    ensures { result ≡ may_cast_number of_module.now from to }
 {
-    is_integer(of_module, from)
-        && (is_integer(of_module, to) && bits_at(of_module, from) == bits_at(of_module, to))
+    (is_integer(of_module, from)
+        && (is_integer(of_module, to) && bits_at(of_module, from) == bits_at(of_module, to)))
+        || (is_pointer_type(of_module, from) && is_pointer_type(of_module, to))
 }
 
 fn may_cast_value(program: &Program, from: TypeId, to: TypeId, value: &Value) -> bool
@@ -44,7 +46,7 @@ fn may_cast_value(program: &Program, from: TypeId, to: TypeId, value: &Value) ->
 {
     match value {
         Value::Unset => false,
-        Value::Number(_) => are_of_one_width(program.module(), from, to),
+        Value::Number(_) => may_cast_number(program.module(), from, to),
         Value::Null => {
             may_refer(program.module(), to)
                 || (may_lead(program.module(), from) && may_lead(program.module(), to))

@@ -7,6 +7,7 @@ use crate::action::{Action, only_if};
 use crate::frame_context::FrameContext;
 use crate::kinds::{are_of_one_layout, number_in};
 use crate::operands::{are_numbers, are_references, is_condition, value_of};
+use crate::outside::are_outside;
 use crate::value::Value;
 use ir_ast::{Choice, Operand, TypeId};
 
@@ -19,11 +20,12 @@ fn may_select(
     ensures { result ≡ may_select context.now.program.now.of_module context.now.function.now context.now.slots.now context.now.registers.now written chosen.now other.now }
 {
     are_numbers(context, written, chosen, other)
-        || (are_references(context, written, chosen, other)
+        || ((are_references(context, written, chosen, other)
             && are_of_one_layout(
                 &value_of(context, written, chosen),
                 &value_of(context, written, other),
             ))
+            || are_outside(context, written, chosen, other))
 }
 
 /// What a select asks for.

@@ -1,6 +1,6 @@
-//! Calls of functions outside: what they ask for, what they take, and what they give.
+//! What is from outside: what a load there and a call of a function outside ask for, what such a call takes, and what is given.
 ghost use Rattle.std.specs.Prelude.{◌≡◌, ◌||◌, slice_get};
-ghost use Rattle.machine.specs.Asks.{asked_outside, is_address_argument, are_outside_arguments};
+ghost use Rattle.machine.specs.Asks.{asked_given, asked_outside, is_address_argument, are_outside_arguments};
 ghost use Rattle.machine.specs.Kinds.{is_usable_number};
 ghost use Rattle.machine.specs.Machine.{given_value};
 
@@ -8,44 +8,54 @@ use crate::action::Action;
 use crate::answer::Answer;
 use crate::frame_context::FrameContext;
 use crate::kinds::{bits_at, is_integer, is_pointer_type, is_void};
-use crate::operands::{is_null_operand, is_usable_number};
+use crate::operands::is_usable_number;
+use crate::outside::{is_null_at, is_usable_outside};
 use crate::value::Value;
 use ir_ast::{Argument, Module, TypeId};
-use outside_names::is_outside_operand;
 
-/// What a function outside gives, by its type: nothing, or a number.
-pub fn asked_outside(of_module: &Module, returned: TypeId) -> Action
-    ensures { result ≡ asked_outside (slice_get of_module.now.types returned) }
+/// A number from outside, by its type; an address outside is one of 64 bits.
+pub fn asked_given(of_module: &Module, written: TypeId) -> Action
+    ensures { result ≡ asked_given (slice_get of_module.now.types written) }
 {
-    if is_void(of_module, returned) {
-        Action::Local
-    } else if is_integer(of_module, returned) {
+    if is_integer(of_module, written) {
         Action::Foreign {
-            bits: bits_at(of_module, returned),
+            bits: bits_at(of_module, written),
         }
+    } else if is_pointer_type(of_module, written) {
+        Action::Foreign { bits: 64 }
     } else {
         Action::Wrong
     }
 }
 
-/// Whether an argument is null or an address outside, written at a pointer type.
-fn is_address_argument(of_module: &Module, argument: &Argument) -> bool
-    ensures { result ≡ is_address_argument of_module.now argument.now }
+/// What a function outside gives, by its type: nothing, a number or an address outside.
+pub fn asked_outside(of_module: &Module, returned: TypeId) -> Action
+    ensures { result ≡ asked_outside (slice_get of_module.now.types returned) }
 {
-    (is_null_operand(&argument.operand) || is_outside_operand(of_module, &argument.operand))
-        && is_pointer_type(of_module, argument.written)
+    if is_void(of_module, returned) {
+        Action::Local
+    } else {
+        asked_given(of_module, returned)
+    }
+}
+
+/// Whether an argument is null or an address outside, written at a pointer type.
+fn is_address_argument(context: &FrameContext<'_>, argument: &Argument) -> bool
+    ensures { result ≡ is_address_argument context.now.program.now.of_module context.now.function.now context.now.slots.now context.now.registers.now argument.now }
+{
+    is_null_at(context.of_module(), argument.written, &argument.operand)
+        || is_usable_outside(context, argument.written, &argument.operand)
 }
 
 /// Whether a function outside takes an argument: a number of its type, null, or an address outside.
 fn is_taken(context: &FrameContext<'_>, argument: &Argument) -> bool
-    ensures { let m = context.now.program.now.of_module in result ≡ (is_usable_number m context.now.function.now context.now.slots.now context.now.registers.now argument.now.written argument.now.operand || is_address_argument m argument.now) }
+    ensures { let m = context.now.program.now.of_module in let f = context.now.function.now in let slots = context.now.slots.now in let registers = context.now.registers.now in result ≡ (is_usable_number m f slots registers argument.now.written argument.now.operand || is_address_argument m f slots registers argument.now) }
 {
     is_usable_number(context, argument.written, &argument.operand)
-        || is_address_argument(context.of_module(), argument)
+        || is_address_argument(context, argument)
 }
 
-/// Whether there is one argument for each of these types, written with it, that a function outside takes.
-#[tactic(auto, using(crate::proofs::ForeignArguments::other_count))]
+/// Whether there is one argument for each of these types, written with it, that a function outside takes, and past them only addresses outside.
 pub fn are_outside_arguments(
     context: &FrameContext<'_>,
     types: &[TypeId],
@@ -53,15 +63,20 @@ pub fn are_outside_arguments(
 ) -> bool
     ensures { result ≡ are_outside_arguments context.now.program.now.of_module context.now.function.now context.now.slots.now context.now.registers.now types.now arguments.now }
 {
-    if types.len() != arguments.len() {
-        return false;
-    }
-    for (written, argument) in types.iter().zip(arguments.iter()) {
-        if argument.written != *written || !is_taken(context, argument) {
+    let mut rest = types;
+    for argument in arguments {
+        let taken = match rest {
+            [written, others @ ..] => {
+                rest = others;
+                argument.written == *written && is_taken(context, argument)
+            }
+            [] => is_usable_outside(context, argument.written, &argument.operand),
+        };
+        if !taken {
             return false;
         }
     }
-    true
+    rest.is_empty()
 }
 
 /// A number from outside, as it is given.

@@ -2,7 +2,7 @@ ghost use Rattle.std.specs.Prelude.{◌≡◌, ◌≤◌, length, map, take, sli
 ghost use Rattle.types.specs.RuntimeCall.{runtime_called};
 ghost use Rattle.machine.specs.Kinds.{value_of};
 ghost use Rattle.machine.specs.Jumps.{put_register, put_each, phi_value, phis_of};
-ghost use Rattle.machine.specs.Machine.{initial, set_register, set_slot, loaded_from, after_call, after_cast, after_memory, after_op, enter};
+ghost use Rattle.machine.specs.Machine.{initial, set_register, set_slot, load_value, after_call, after_cast, after_memory, after_op, enter};
 
 use crate::answer::Answer;
 use crate::calls::{alloc_value, layout_of_call, place_of_call, root_of_call};
@@ -17,9 +17,11 @@ use crate::kinds::is_integer;
 use crate::memory::{loaded_from, read_at};
 use crate::numbers::number_value;
 use crate::operands::{address_at_place, operand_slot, slot_at_place, value_of};
+use crate::outside::is_usable_outside;
 use crate::value::Value;
 use ir_ast::{
-    BlockId, Call, Cast, FuncId, Function, MemoryOp, Module, Op, Phi, Runtime, TypeId, ValueId,
+    BlockId, Call, Cast, FuncId, Function, MemoryOp, Module, Op, Operand, Phi, Runtime, TypeId,
+    ValueId,
 };
 use items::Items;
 use layout::Program;
@@ -105,6 +107,25 @@ impl Frame {
         }
     }
 
+    /// What a load gives, by whether its place is outside.
+    fn load_value(
+        &self,
+        code: &FrameCode,
+        place_type: TypeId,
+        place: &Operand,
+        answer: Answer,
+    ) -> Value
+        ensures { result ≡ load_value code.now.program.now code.now.function.now code.now.slots.now self.now place_type place.now answer }
+    {
+        let context = self.context(code.program, code.function, code.slots);
+        if is_usable_outside(&context, place_type, place) {
+            return given_value(answer);
+        }
+        let slot = slot_at_place(&context, place_type, place);
+        let address = address_at_place(&context, place_type, place);
+        loaded_from(code.program, self.slots.as_slice(), slot, address, answer)
+    }
+
     fn after_memory(
         &mut self,
         code: &FrameCode,
@@ -127,9 +148,7 @@ impl Frame {
                 place,
                 ..
             } => {
-                let slot = slot_at_place(&context, *place_type, place);
-                let address = address_at_place(&context, *place_type, place);
-                let value = loaded_from(program, self.slots.as_slice(), slot, address, answer);
+                let value = self.load_value(code, *place_type, place, answer);
                 self.set_register(name, value);
             }
             MemoryOp::Store {

@@ -45,11 +45,12 @@ fn entry_fits(context: &FrameContext<'_>, written: TypeId, entry: Option<Operand
 {
     match entry {
         Some(operand) => {
-            is_no_global(&operand)
+            is_no_global(context.of_module(), &operand)
                 && is_typed(context, written, &operand)
-                && !context
-                    .slots
-                    .is_opaque_address(context.of_module(), written, operand)
+                && (context.of_module().wide
+                    || !context
+                        .slots
+                        .is_opaque_address(context.of_module(), written, operand))
         }
         None => true,
     }

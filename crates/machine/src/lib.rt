@@ -28,6 +28,7 @@ mod kinds;
 mod memory;
 mod numbers;
 mod operands;
+mod outside;
 mod thread;
 mod value;
 mod waiting_frame;

@@ -10,9 +10,11 @@ use crate::answer::Answer;
 use crate::elements::{
     global_kind, globals_cell, is_read_as, kind_of_word, read_value, takes_value,
 };
+use crate::foreign::asked_given;
 use crate::frame_context::FrameContext;
 use crate::kinds::{fits_layout_of, is_byte_pointer};
 use crate::operands::{address_at_place, is_usable, slot_at_place, value_of};
+use crate::outside::{is_usable_outside, stores_outside};
 use crate::value::{Pointee, Value};
 use ir_ast::{MemoryOp, Module, Operand, TypeId};
 use layout::Program;
@@ -219,7 +221,7 @@ fn store_action(
     }
 }
 
-/// What an operation on memory asks for.
+/// What an operation on memory asks for. What is read outside is from outside, and what is stored there changes nothing here.
 pub fn memory_action(context: &FrameContext<'_>, op: &MemoryOp) -> Action
     ensures { result ≡ memory_action context.now.program.now context.now.function.now context.now.slots.now context.now.registers.now op.now }
 {
@@ -229,13 +231,25 @@ pub fn memory_action(context: &FrameContext<'_>, op: &MemoryOp) -> Action
             loaded,
             place_type,
             place,
-        } => load_action(context, *loaded, *place_type, place),
+        } => {
+            if is_usable_outside(context, *place_type, place) {
+                asked_given(context.of_module(), *loaded)
+            } else {
+                load_action(context, *loaded, *place_type, place)
+            }
+        }
         MemoryOp::Store {
             stored,
             value,
             place_type,
             place,
-        } => store_action(context, *stored, value, *place_type, place),
+        } => {
+            if is_usable_outside(context, *place_type, place) {
+                only_if(stores_outside(context, *stored, value), Action::Local)
+            } else {
+                store_action(context, *stored, value, *place_type, place)
+            }
+        }
     }
 }
 

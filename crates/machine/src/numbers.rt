@@ -2,8 +2,8 @@
 ghost use Rattle.std.specs.Prelude.{◌≡◌, ◌&&◌, slice_get};
 ghost use Rattle.machine.specs.Kinds.{value_of, is_integer, is_usable_number, bits_at, number_in};
 ghost use Rattle.machine.specs.Integers.{may_resize, computed, resized};
-ghost use Rattle.machine.specs.Asks.{may_compare, gives_number, number_asked, number_action};
-ghost use Rattle.machine.specs.Machine.{are_equal, compared, number_value};
+ghost use Rattle.machine.specs.Asks.{compares_outside, may_compare, gives_number, number_asked, number_action};
+ghost use Rattle.machine.specs.Machine.{are_equal, compared, comparison_value, number_value};
 ghost use Rattle.machine.specs.declared.value.Value.TheVariants as value;
 
 use crate::action::{Action, only_if};
@@ -16,6 +16,7 @@ use crate::integers::{
 };
 use crate::kinds::{bits_at, is_integer, number_in};
 use crate::operands::{are_numbers, are_references, is_usable_number, value_of};
+use crate::outside::compares_outside;
 use crate::value::Value;
 use ir_ast::{Arithmetic, Comparison, Module, NumberOp, Operand, Resize, TypeId};
 
@@ -68,20 +69,35 @@ fn gives_number(context: &FrameContext<'_>, op: &NumberOp) -> bool
             written,
             first,
             second,
-        } => may_compare(context, *kind, *written, first, second),
+        } => {
+            may_compare(context, *kind, *written, first, second)
+                || compares_outside(context, *written, first, second)
+        }
         NumberOp::Float(op) => gives_float(context, op),
     }
 }
 
-/// What an operation on numbers asks for: one on floating point numbers for a number from outside, one on integers for nothing.
-fn number_asked(of_module: &Module, op: &NumberOp) -> Action
-    ensures { result ≡ number_asked of_module.now op.now }
+/// What an operation on numbers asks for: one on floating point numbers, and a comparison of addresses outside, for a number from outside, one on integers for nothing.
+fn number_asked(context: &FrameContext<'_>, op: &NumberOp) -> Action
+    ensures { result ≡ number_asked context.now.program.now.of_module context.now.function.now context.now.slots.now context.now.registers.now op.now }
 {
     match op {
+        NumberOp::Arithmetic { .. } | NumberOp::Resize { .. } => Action::Local,
+        NumberOp::Compare {
+            written,
+            first,
+            second,
+            ..
+        } => {
+            if compares_outside(context, *written, first, second) {
+                Action::Foreign { bits: 1 }
+            } else {
+                Action::Local
+            }
+        }
         NumberOp::Float(op) => Action::Foreign {
-            bits: float_bits(of_module, op),
+            bits: float_bits(context.of_module(), op),
         },
-        _ => Action::Local,
     }
 }
 
@@ -89,10 +105,7 @@ fn number_asked(of_module: &Module, op: &NumberOp) -> Action
 pub fn number_action(context: &FrameContext<'_>, op: &NumberOp) -> Action
     ensures { result ≡ number_action context.now.program.now.of_module context.now.function.now context.now.slots.now context.now.registers.now op.now }
 {
-    only_if(
-        gives_number(context, op),
-        number_asked(context.of_module(), op),
-    )
+    only_if(gives_number(context, op), number_asked(context, op))
 }
 
 /// What an integer instruction of two operands gives.
@@ -153,9 +166,31 @@ fn compared(kind: Comparison, bits: u32, first: Value, second: Value) -> Value
     }
 }
 
+/// What an icmp gives: of addresses outside what is given from outside.
+fn comparison_value(
+    context: &FrameContext<'_>,
+    kind: Comparison,
+    written: TypeId,
+    first: &Operand,
+    second: &Operand,
+    answer: Answer,
+) -> Value
+    ensures { let m = context.now.program.now.of_module in let registers = context.now.registers.now in result ≡ comparison_value (compares_outside m context.now.function.now context.now.slots.now registers written first.now second.now) kind (bits_at m written) (value_of m registers written first.now) (value_of m registers written second.now) answer }
+{
+    if compares_outside(context, written, first, second) {
+        return given_value(answer);
+    }
+    compared(
+        kind,
+        bits_at(context.of_module(), written),
+        value_of(context, written, first),
+        value_of(context, written, second),
+    )
+}
+
 /// What an operation on numbers gives.
 pub fn number_value(context: &FrameContext<'_>, op: &NumberOp, answer: Answer) -> Value
-    ensures { result ≡ number_value context.now.program.now.of_module context.now.registers.now op.now answer }
+    ensures { result ≡ number_value context.now.program.now.of_module context.now.function.now context.now.slots.now context.now.registers.now op.now answer }
 {
     match op {
         NumberOp::Arithmetic {
@@ -175,12 +210,7 @@ pub fn number_value(context: &FrameContext<'_>, op: &NumberOp, answer: Answer) -
             written,
             first,
             second,
-        } => compared(
-            *kind,
-            bits_at(context.of_module(), *written),
-            value_of(context, *written, first),
-            value_of(context, *written, second),
-        ),
+        } => comparison_value(context, *kind, *written, first, second, answer),
         NumberOp::Float(_) => given_value(answer),
     }
 }

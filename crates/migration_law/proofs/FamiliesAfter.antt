@@ -18,7 +18,7 @@ use Rattle.copies.specs.Opaque.{new_number, opaque_block, opaque_function, opaqu
 use Rattle.types.specs.Elements.{element_type}
 use Rattle.types.specs.References.{is_opaque, is_opaque_type, layout_after, layout_of_struct, part_of_pointer, pointee, referenced_layout, struct_in, struct_named}
 use Rattle.types.specs.ValueTypes.{instruction_at, instruction_in}
-use Rattle.certs.specs.Families.{family_after, family_in, family_of_element, family_of_op, family_of_part, family_of_pointer, family_of_sort, family_of_struct, family_of_type, family_of_value, is_address, is_integer, is_opaque_text, is_reference, refers_to, same_bits}
+use Rattle.certs.specs.Families.{family_after, family_in, family_of_element, family_of_op, family_of_part, family_of_pointer, family_of_sort, family_of_struct, family_of_type, family_of_value, is_address, is_integer, is_opaque_text, is_reference, may_be_outside, refers_to, same_bits}
 use Rattle.certs.specs.Fits.{stands_for}
 use Rattle.certs.specs.declared.family.Family.{Family}
 use Rattle.certs.specs.declared.family.Family.TheVariants.{Number, Reference, AnyReference, Address, Opaque, Nothing}
@@ -59,6 +59,27 @@ no_bits Nothing b e = refl
 pub bits : (before after : Family) (b : Option ℕ) → Becomes before after → Implies (is_some (same_bits before b)) (is_some (same_bits after b))
 bits before after b (inl e) h = subst (λ x. is_some (same_bits x b) ≡ true) (sym e) h
 bits before after b (inr p) h = absurd (true≢false (sym h ∙ no_bits before b p.1))
+
+-- a pointer that may be an address outside stands in a text with the wide forms
+wide_there : (m : Module) (f : Family) → may_be_outside m f ≡ true → m.wide ≡ true
+wide_there m (Number bits) h = absurd (true≢false (sym h))
+wide_there m (Reference layout) h = h
+wide_there m AnyReference h = h
+wide_there m Address h = h
+wide_there m Opaque h = h
+wide_there m Nothing h = absurd (true≢false (sym h))
+
+wide_too : (m n : Module) (f : Family) → n.wide ≡ m.wide → may_be_outside m f ≡ true → may_be_outside n f ≡ true
+wide_too m n (Number bits) e h = h
+wide_too m n (Reference layout) e h = e ∙ h
+wide_too m n AnyReference e h = e ∙ h
+wide_too m n Address e h = e ∙ h
+wide_too m n Opaque e h = e ∙ h
+wide_too m n Nothing e h = h
+
+pub outside : (m n : Module) (before after : Family) → n.wide ≡ m.wide → Becomes before after → Implies (may_be_outside m before) (may_be_outside n after)
+outside m n before after wide (inl e) h = subst (λ x. may_be_outside n x ≡ true) (sym e) (wide_too m n before wide h)
+outside m n before after wide (inr p) h = subst (λ x. may_be_outside n x ≡ true) (sym p.0) (wide ∙ wide_there m before h)
 
 -- ---- what is no integer
 

@@ -137,8 +137,8 @@ fn of_mistyped(mistyped: &Mistyped) -> Page {
             "write the type of the word, or lead to the right one; a reference is of one layout",
         ),
         Mistyped::Outside => mended(
-            "{it} is outside of the module, and only a function outside may get it",
-            "leave what is in {it} to functions outside; a global of the module holds what its code reads",
+            "{it} is an address outside of the module, and none may stand here",
+            "keep it in a register, away from references: no cell, no global and no slot holds it, and no reference is stored where it leads",
         ),
         Mistyped::Address => mended("{it} is an address, and a value is wanted here", LOAD),
         Mistyped::Slot => mended("{it} is a slot, and a value is wanted here", LOAD),
@@ -226,6 +226,14 @@ fn of_promise(word: &Unkept) -> Page {
         Unkept::Layout => mended(
             "{it} refers to another layout than the certificate promises",
             "give a reference to the layout that is promised",
+        ),
+        Unkept::Outside => mended(
+            "{it} is an address outside of the module, and the certificate does not promise `i64`",
+            "promise `i64`, and nothing else, where addresses outside alone are given",
+        ),
+        Unkept::Inside => mended(
+            "{it} is no address outside of the module, and the certificate promises `i64`",
+            "give an address outside",
         ),
         Unkept::Other => mended(
             "{it} is not known to keep what the certificate promises",
@@ -359,10 +367,6 @@ fn of_outside(outside: &Outside) -> Page {
             "",
             "write `foreign {callee} none` after the first line of the certificate, if {callee} keeps what that promises",
             "docs/CERTIFICATES.md says what is promised: it reaches no safepoint, and touches no cell and none of the program's data",
-        ),
-        Outside::GivesPointer => mended(
-            "{callee} is outside of the module, and gives a pointer, of which nothing would be known",
-            "a function outside gives a number or nothing",
         ),
         Outside::OtherCount => mended(
             "{callee} is outside of the module, and is not called as it is declared",

@@ -84,6 +84,8 @@ fn text_of_cert(mending: &Mending) -> &'static str {
         Mending::PromiseResult => {
             "add `result ref L` to the certificate of the callee, after its `param` lines, where L is the layout to which the result refers"
         }
+        Mending::PromiseNumber => "or `param {it} i64`, where it leads out of the module",
+        Mending::PromiseNumberResult => "or `result i64`, where it leads out of the module",
         mending => text_of_value(mending),
     }
 }

@@ -31,13 +31,13 @@ use Rattle.machine.specs.declared.frame.Frame.{Frame}
 use Rattle.machine.specs.declared.value.Pointee.{Pointee}
 use Rattle.machine.specs.declared.value.Value.{Value}
 use Rattle.machine.specs.declared.value.Value.TheVariants as value
-use Rattle.machine.specs.Asks.{read_action, load_action, gcread_action, alloc_of, alloc_action, defined_action, asked_outside, outside_action, float_action, gives_number, number_asked, number_action, call_action, declare_of, function_numbered, number_called, target_at, edge_of, memory_action, op_action}
+use Rattle.machine.specs.Asks.{read_action, load_action, gcread_action, alloc_of, alloc_action, defined_action, asked_given, asked_outside, outside_action, float_action, compares_outside, gives_number, number_asked, number_action, call_action, declare_of, function_numbered, number_called, target_at, edge_of, memory_action, op_action}
 use Rattle.machine.specs.Elements.{element_offset}
 use Rattle.machine.specs.Jumps.{entry_for, entry_value, phi_value, phis_of, put_register, put_phis}
-use Rattle.machine.specs.Kinds.{is_integer, is_void, bits_of, register_at, bits_at, value_of, slot_at_place, address_at_place}
-use Rattle.machine.specs.Machine.{State, entry_frame, has_room, with_room, function_called, instr_at, end_at, step_action, frame_action, action, slot_value, set_register, set_slot, cast_from, read_at, loaded_from, alloc_value, layout_of_call, place_of_call, integers_value, given_value, after_call, number_value, choice_value, element_address, after_memory, after_op, go_on, enter_block, values_of, called_with, frames_called, result_of, frames_returned, after_instr, after_end, after_last, after_step, after_frame, after_answer}
+use Rattle.machine.specs.Kinds.{is_integer, is_void, is_pointer_type, bits_of, register_at, bits_at, value_of, is_usable_outside, slot_at_place, address_at_place}
+use Rattle.machine.specs.Machine.{State, entry_frame, has_room, with_room, function_called, instr_at, end_at, step_action, frame_action, action, slot_value, set_register, set_slot, cast_from, read_at, loaded_from, alloc_value, layout_of_call, place_of_call, integers_value, given_value, after_call, comparison_value, number_value, choice_value, element_address, load_value, after_memory, after_op, go_on, enter_block, values_of, called_with, frames_called, result_of, frames_returned, after_instr, after_end, after_last, after_step, after_frame, after_answer}
 use Rattle.program_runner.specs.Kinds.{FitsHeap, FrameFits, FramesFit, IsHeapWith}
-use Rattle.program_runner.specs.Values.{PlaceFits, computed_below, function_value_below, resized_below, compared_fits, selected_fits, one_more_fits, value_fits, element_fits}
+use Rattle.program_runner.specs.Values.{PlaceFits, computed_below, function_value_below, resized_below, compared_fits, selected_fits, one_more_fits, value_fits, address_from_fits}
 use Rattle.program_runner.specs.Given.{GivesNothing, FitsAsked, nothing_at, nothing_claimed, nothing_given, only_gives, read_fits}
 use Rattle.program_runner.specs.Asks.{operand_fits, place_fits}
 use Rattle.program_runner.specs.Begun.{AllFit, entry_fits}
@@ -150,14 +150,19 @@ module _ (s : Setup) where
         by (inr g) = nothing_given s given g
 
       -- a number from outside, by the type that is asked for
-      type_fits : (type : Option IrType) (nothing integer : Bool) (given : Answer) → FitsAsked s (if nothing then Local else (if integer then Foreign (bits_of type) else Wrong)) given → FitsHeap s (given_value given)
-      type_fits type true integer given g = nothing_given s given g
-      type_fits type false true given g = g
-      type_fits type false false given g = nothing_given s given g
+      type_fits : (type : Option IrType) (given : Answer) → FitsAsked s (asked_given type) given → FitsHeap s (given_value given)
+      type_fits type given g = by (is_integer type) (is_pointer_type type) g where
+        by : (integer pointer : Bool) → FitsAsked s (if integer then Foreign (bits_of type) else (if pointer then Foreign 64 else Wrong)) given → FitsHeap s (given_value given)
+        by true pointer g = g
+        by false true g = g
+        by false false g = nothing_given s given g
 
-      -- and by the number of the type
+      -- and by the number of the type of a function's result
       asked_fits : (returned : ℕ) (given : Answer) → FitsAsked s (asked_outside (slice_get p.of_module.types returned)) given ⊎ GivesNothing given → FitsHeap s (given_value given)
-      asked_fits returned given (inl g) = let type = slice_get p.of_module.types returned in type_fits type (is_void type) (is_integer type) given g
+      asked_fits returned given (inl g) = let type = slice_get p.of_module.types returned in by type (is_void type) g where
+        by : (type : Option IrType) (nothing : Bool) → FitsAsked s (if nothing then Local else asked_given type) given → FitsHeap s (given_value given)
+        by type true g = nothing_given s given g
+        by type false g = type_fits type given g
       asked_fits returned given (inr g) = nothing_given s given g
 
       -- what a call of a function outside gives
@@ -200,36 +205,60 @@ module _ (s : Setup) where
       operand written o = operand_fits s p heap f slots frame.registers fits.registers written o
 
       -- what an operation on numbers gives, where what it asks for is given, or nothing
-      computed_fits : (x : NumberOp) (given : Answer) → FitsAsked s (number_asked p.of_module x) given ⊎ GivesNothing given → FitsHeap s (number_value p.of_module frame.registers x given)
+      computed_fits : (x : NumberOp) (given : Answer) → FitsAsked s (number_asked p.of_module f slots frame.registers x) given ⊎ GivesNothing given → FitsHeap s (number_value p.of_module f slots frame.registers x given)
       computed_fits (number.Arithmetic k written first second) given h = computed_below k (bits_at p.of_module written) _ _
       computed_fits (number.Resize k written o to) given h = resized_below k (bits_at p.of_module written) (bits_at p.of_module to) _
-      computed_fits (number.Compare k written first second) given h =
-          compared_fits s k (bits_at p.of_module written) (value_of p.of_module frame.registers written first) (value_of p.of_module frame.registers written second)
+      computed_fits (number.Compare k written first second) given h = by (compares_outside p.of_module f slots frame.registers written first second) h where
+        bits : ℕ
+        bits = bits_at p.of_module written
+
+        one : Value
+        one = value_of p.of_module frame.registers written first
+
+        other : Value
+        other = value_of p.of_module frame.registers written second
+
+        by : (outside : Bool) → FitsAsked s (if outside then Foreign 1 else Local) given ⊎ GivesNothing given → FitsHeap s (comparison_value outside k bits one other given)
+        by true (inl g) = g
+        by true (inr g) = nothing_given s given g
+        by false g = compared_fits s k bits one other
       computed_fits (number.Float x) given (inl g) = g
       computed_fits (number.Float x) given (inr g) = nothing_given s given g
 
       -- so what it gives
-      number_fits : (x : NumberOp) (given : Answer) → FitsAsked s (number_action p.of_module f slots frame.registers x) given → FitsHeap s (number_value p.of_module frame.registers x given)
-      number_fits x given h = computed_fits x given (only_gives s (gives_number p.of_module f slots frame.registers x) (number_asked p.of_module x) given h)
+      number_fits : (x : NumberOp) (given : Answer) → FitsAsked s (number_action p.of_module f slots frame.registers x) given → FitsHeap s (number_value p.of_module f slots frame.registers x given)
+      number_fits x given h = computed_fits x given (only_gives s (gives_number p.of_module f slots frame.registers x) (number_asked p.of_module f slots frame.registers x) given h)
+
+      -- what a load gives, also from outside
+      loaded_fits : (loaded place_type : ℕ) (place : Operand) (given : Answer) → FitsAsked s (memory_action p f slots frame.registers (memory.Load loaded place_type place)) given
+          → FitsHeap s (load_value p f slots frame place_type place given)
+      loaded_fits loaded place_type place given h = by (is_usable_outside p.of_module f slots frame.registers place_type place) h where
+        slot : Option ℕ
+        slot = slot_at_place p.of_module f slots place_type place
+
+        address : Option Pointee
+        address = address_at_place p.of_module f slots frame.registers place_type place
+
+        by : (outside : Bool) → FitsAsked s (if outside then asked_given (slice_get p.of_module.types loaded) else load_action p slots loaded slot address) given
+            → FitsHeap s (if outside then given_value given else loaded_from p frame.slots slot address given)
+        by true g = type_fits (slice_get p.of_module.types loaded) given g
+        by false g = load_fits slots frame.slots fits.slots loaded slot address given (place_fits s p heap f slots frame.registers fits.registers place_type place) g
 
       -- the frame after an operation on memory
       memory_fits : (name : Option ℕ) (x : MemoryOp) (given : Answer) → FitsAsked s (memory_action p f slots frame.registers x) given → FrameFits s (after_memory p f slots name x given frame)
       memory_fits name (memory.Alloca held) given h = fits
       memory_fits name (memory.Load loaded place_type place) given h =
-          register_fits name _ frame
-          (load_fits slots frame.slots fits.slots loaded (slot_at_place p.of_module f slots place_type place) (address_at_place p.of_module f slots frame.registers place_type place) given
-          (place_fits s p heap f slots frame.registers fits.registers place_type place) h)
-          fits
+          register_fits name (load_value p f slots frame place_type place given) frame (loaded_fits loaded place_type place given h) fits
       memory_fits name (memory.Store written v place_type place) given h =
           slot_fits (slot_at_place p.of_module f slots place_type place) (value_of p.of_module frame.registers written v) frame (operand written v) fits
 
       -- the frame after an instruction that calls no defined function
       op_fits : (name : Option ℕ) (x : Op) (given : Answer) → FitsAsked s (op_action p f slots frame.registers x) given → FrameFits s (after_op p f slots name x given frame)
-      op_fits name (op.Number x) given h = register_fits name (number_value p.of_module frame.registers x given) frame (number_fits x given h) fits
+      op_fits name (op.Number x) given h = register_fits name (number_value p.of_module f slots frame.registers x given) frame (number_fits x given h) fits
       op_fits name (op.Memory x) given h = memory_fits name x given h
       op_fits name (op.Element x) given h =
           register_fits name (element_address p frame.registers x) frame
-          (element_fits s p (element_offset p frame.registers x.source x.indices) (value_of p.of_module frame.registers x.base_type x.base) (operand x.base_type x.base)) fits
+          (address_from_fits s p (element_offset p frame.registers x.source x.indices) (value_of p.of_module frame.registers x.base_type x.base) (operand x.base_type x.base)) fits
       op_fits name (op.Cast x) given h = cast_fits name (value_of p.of_module frame.registers x.from x.operand) (operand_slot slots.names x.operand) frame (operand x.from x.operand) fits
       op_fits name (op.Choice x) given h =
           register_fits name (choice_value p.of_module frame.registers x) frame

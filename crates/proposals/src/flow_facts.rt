@@ -3,7 +3,7 @@ use crate::call_graph::defined;
 use crate::inferred::Shown;
 use crate::summaries::Summaries;
 use crate::summary::FunctionSummary;
-use block_rules::{RuleContext, TypeKind, advance, below_next, given_by, known_of};
+use block_rules::{RuleContext, TypeKind, advance, below_next, given_by, known_in, known_of};
 use certs::{Claim, Mark};
 use facts::{Entry, Facts, Known, SpareRows};
 use ir_ast::{BlockId, Call, Constant, Instr, Module, Op, Operand, Runtime, ValueId};
@@ -164,18 +164,21 @@ impl FlowFacts {
     }
 
     /// What is known of an operand here, where its type is of this kind.
-    pub fn shown(&self, operand: &Operand, kind: TypeKind) -> Shown {
+    pub fn shown(&self, module: &Module, operand: &Operand, kind: TypeKind) -> Shown {
         match operand {
             Operand::Constant(Constant::Number(number)) => Shown::Number(below_next(*number)),
             Operand::Constant(Constant::Null) => Shown::Null,
             Operand::Constant(Constant::Float(_) | Constant::Truth(_)) => Shown::Number(None),
-            operand => self.shown_of(known_of(&self.here, operand), kind),
+            operand => self.shown_of(known_in(module, &self.here, operand), kind),
         }
     }
 
     fn shown_of(&self, known: Known, kind: TypeKind) -> Shown {
         match known {
-            Known::Number { below, .. } => Shown::Number(below),
+            Known::Number { below, .. } => match kind {
+                TypeKind::Bits(_) => Shown::Number(below),
+                _ => Shown::Outside,
+            },
             Known::Null => Shown::Null,
             Known::Cell { class, layout, .. } => {
                 if kind.fits_layout(layout) {
@@ -237,7 +240,7 @@ impl FlowFacts {
         for phi in block.phis.as_slice() {
             let kind = TypeKind::of(rule_context.module(), phi.written);
             let operand = summary.reading.incoming.operand(to, place, from);
-            let known = comes_in(&self.changed, kind, &operand);
+            let known = comes_in(rule_context.module(), &self.changed, kind, &operand);
             self.entries.push(Entry {
                 phi: phi.value,
                 known,
@@ -274,10 +277,10 @@ fn has_phis(rule_context: &RuleContext, block: BlockId) -> bool {
 }
 
 /// What is known of what comes in to a phi.
-fn comes_in(facts: &Facts, kind: TypeKind, operand: &Option<Operand>) -> Known {
+fn comes_in(module: &Module, facts: &Facts, kind: TypeKind, operand: &Option<Operand>) -> Known {
     match operand {
         Some(Operand::Constant(constant)) => constant_comes_in(*constant, kind),
-        Some(operand) => known_of(facts, operand),
+        Some(operand) => known_in(module, facts, operand),
         None => Known::Nothing,
     }
 }

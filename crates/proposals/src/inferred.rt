@@ -1,4 +1,5 @@
 use certs::{Family, Promise};
+use layout_flow::Leads;
 use pools::LayoutId;
 
 /// What is known of an operand.
@@ -8,7 +9,12 @@ pub enum Shown {
     /// An integer, and what it is below.
     Number(Option<u64>),
     Null,
-    Cell { layout: LayoutId, nonnull: bool },
+    Cell {
+        layout: LayoutId,
+        nonnull: bool,
+    },
+    /// An address outside of the module.
+    Outside,
 }
 
 /// What is promised of a parameter or of a result, as far as it was found.
@@ -21,24 +27,31 @@ pub enum InferredPromise {
     Reference { nonnull: bool },
     /// `i8*` or `ptr`: a reference to this layout.
     AnyReference { layout: LayoutId, nonnull: bool },
+    /// A pointer: an address outside of the module.
+    Outside,
 }
 
 impl InferredPromise {
-    /// The most that can be promised of a value of this family; `below` and `layout` are those of a promise, if it has them.
+    /// The most that can be promised of a value of this family, which leads there; `below` is that of a promise, if it has one.
     pub fn of(
         family: Family,
         nonnull: bool,
         below: Option<u64>,
-        layout: Option<LayoutId>,
+        leads: Leads,
     ) -> InferredPromise {
         match family {
             Family::Number(_) => InferredPromise::Number(below),
             Family::Reference(_) => InferredPromise::Reference { nonnull },
-            Family::AnyReference | Family::Opaque => match layout {
-                Some(layout) => InferredPromise::AnyReference { layout, nonnull },
-                None => InferredPromise::Nothing,
+            Family::AnyReference | Family::Opaque => match leads {
+                Leads::To(layout) => InferredPromise::AnyReference { layout, nonnull },
+                Leads::Outside => InferredPromise::Outside,
+                Leads::Nowhere => InferredPromise::Nothing,
             },
-            Family::Address | Family::Nothing => InferredPromise::Nothing,
+            Family::Address => match leads {
+                Leads::Outside => InferredPromise::Outside,
+                Leads::To(_) | Leads::Nowhere => InferredPromise::Nothing,
+            },
+            Family::Nothing => InferredPromise::Nothing,
         }
     }
 
@@ -52,6 +65,10 @@ impl InferredPromise {
             )),
             InferredPromise::Reference { nonnull } => InferredPromise::Reference {
                 nonnull: nonnull && is_nonnull(shown),
+            },
+            InferredPromise::Outside => match shown {
+                Shown::Outside => InferredPromise::Outside,
+                _ => InferredPromise::Nothing,
             },
             InferredPromise::AnyReference { layout, nonnull } => {
                 if is_other(layout, shown) {
@@ -76,6 +93,13 @@ impl InferredPromise {
                 layout: Some(layout),
                 nonnull,
                 below: None,
+                number: false,
+            }),
+            InferredPromise::Outside => Some(Promise {
+                layout: None,
+                nonnull: false,
+                below: None,
+                number: true,
             }),
         }
     }
@@ -110,6 +134,7 @@ fn number_promise(below: Option<u64>) -> Option<Promise> {
         layout: None,
         nonnull: false,
         below,
+        number: false,
     })
 }
 
@@ -121,6 +146,7 @@ fn reference_promise(nonnull: bool) -> Option<Promise> {
         layout: None,
         nonnull,
         below: None,
+        number: false,
     })
 }
 
@@ -160,6 +186,6 @@ fn is_other(layout: LayoutId, shown: Shown) -> bool {
     match shown {
         Shown::Cell { layout: other, .. } => other != layout,
         Shown::Null => false,
-        Shown::Nothing | Shown::Number(_) => true,
+        Shown::Nothing | Shown::Number(_) | Shown::Outside => true,
     }
 }

@@ -3,10 +3,10 @@ use crate::inferred::{InferredPromise, Shown};
 use crate::marks::marks_of;
 use crate::needs::needs_of;
 use crate::order::callees_first;
-use certs::{Mark, Promise, family_of_type, family_of_value};
+use certs::{Family, Mark, Promise, family_of_type, family_of_value};
 use ir_ast::{FuncId, Function, Module};
 use layout::Program;
-use layout_flow::LayoutFlow;
+use layout_flow::{LayoutFlow, Leads};
 use number_tables::{put, row_or};
 use std::alloc::{AllocError, Global};
 
@@ -189,13 +189,13 @@ impl Summaries {
         self.firsts.push(self.parameters.len())?;
         for parameter in function.parameters.as_slice() {
             let family = family_of_value(module, function, parameter.value);
-            let layout = layouts.of_value(func, parameter.value);
-            let inferred = InferredPromise::of(family, nonnull, None, layout);
+            let leads = leads_of(module, &family, layouts.of_value(func, parameter.value));
+            let inferred = InferredPromise::of(family, nonnull, None, leads);
             self.parameters.push(inferred)?;
         }
         let family = family_of_type(module, function.returned);
-        let layout = layouts.of_result(func);
-        let inferred = InferredPromise::of(family, true, Some(1), layout);
+        let leads = leads_of(module, &family, layouts.of_result(func));
+        let inferred = InferredPromise::of(family, true, Some(1), leads);
         self.results.push(inferred)?;
         Ok(())
     }
@@ -236,5 +236,13 @@ impl Summaries {
             }
             place = place.saturating_add(1);
         }
+    }
+}
+
+/// Where a value of this family leads, of which this was found. Where the wide forms may stand, a pointer that can be no reference leads outside.
+fn leads_of(module: &Module, family: &Family, found: Leads) -> Leads {
+    match *family {
+        Family::Address if module.wide => Leads::Outside,
+        _ => found,
     }
 }

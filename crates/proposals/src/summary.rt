@@ -4,7 +4,7 @@ use crate::predecessors::predecessors_of;
 use crate::scan::Scan;
 use crate::wanted::wanted_of;
 use ir_ast::{FuncId, Function, Module, ValueId};
-use layout_flow::LayoutFlow;
+use layout_flow::{LayoutFlow, Leads};
 use number_tables::Buckets;
 use pools::LayoutId;
 use shadow_stack::{Slots, slots_of};
@@ -56,7 +56,10 @@ impl<'a> FunctionSummary<'a> {
 
     /// The layout of an `i8*` or a `ptr`, as far as the module tells.
     pub fn layout_of(&self, value: ValueId) -> Option<LayoutId> {
-        self.layouts.of_value(self.func, value)
+        match self.layouts.of_value(self.func, value) {
+            Leads::To(layout) => Some(layout),
+            Leads::Outside | Leads::Nowhere => None,
+        }
     }
 }
 

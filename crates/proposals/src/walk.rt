@@ -173,8 +173,9 @@ impl FlowAnalysis {
     }
 
     fn shown(&self, context: &FunctionContext, argument: &Argument) -> crate::inferred::Shown {
-        let kind = TypeKind::of(context.rule_context.module(), argument.written);
-        self.flow.shown(&argument.operand, kind)
+        let module = context.rule_context.module();
+        let kind = TypeKind::of(module, argument.written);
+        self.flow.shown(module, &argument.operand, kind)
     }
 
     /// What a block returns, if it does, is recorded for the callers.

@@ -34,7 +34,11 @@ one_mark mark.May = refl
 one_mark mark.None = refl
 
 one_promise : (p : Promise) → same_promise p p ≡ true
-one_promise p = and_true (option_eq nat_eq p.layout p.layout && same_truth p.nonnull p.nonnull) (option_eq nat_eq p.below p.below) (and_true (option_eq nat_eq p.layout p.layout) (same_truth p.nonnull p.nonnull) (one_option p.layout) (one_truth p.nonnull)) (one_option p.below)
+one_promise p =
+    let layouts = option_eq nat_eq p.layout p.layout in
+    let nulls = same_truth p.nonnull p.nonnull in
+    let bounds = option_eq nat_eq p.below p.below in
+    and_true (layouts && nulls && bounds) (same_truth p.number p.number) (and_true (layouts && nulls) bounds (and_true layouts nulls (one_option p.layout) (one_truth p.nonnull)) (one_option p.below)) (one_truth p.number)
 
 all_one : (m : Module) (parameters : List Parameter) (promises : List (Option Promise)) → all_said m parameters promises promises ≡ true
 all_one m [] promises = refl

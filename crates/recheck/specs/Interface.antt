@@ -38,14 +38,14 @@ same_types one other = (one.returned == other.returned) && (length one.parameter
 
 -- ---- promises, by what they say
 
--- two promises have the same layout, or none; both say nonnull or neither does; and they have the same bound, or none
+-- two promises have the same layout, or none; both say nonnull or neither does; they have the same bound, or none; and both are of an address outside or neither is
 abbrev pub same_promise : (one other : Promise) → Bool
-same_promise one other = option_eq nat_eq one.layout other.layout && same_truth one.nonnull other.nonnull && option_eq nat_eq one.below other.below
+same_promise one other = option_eq nat_eq one.layout other.layout && same_truth one.nonnull other.nonnull && option_eq nat_eq one.below other.below && same_truth one.number other.number
 
 -- What is said of a value of a type: nothing is promised, so it is what the type says; or the promise, with the layout of the type where it has none.
 abbrev pub interface : Module → (written : ℕ) → Option Promise → Promise
-interface m written None = record { layout = layout_of_kind (kind_of m written); nonnull = false; below = None }
-interface m written (Some promise) = record { layout = option_or promise.layout (layout_of_kind (kind_of m written)); nonnull = promise.nonnull; below = promise.below }
+interface m written None = record { layout = layout_of_kind (kind_of m written); nonnull = false; below = None; number = false }
+interface m written (Some promise) = record { layout = option_or promise.layout (layout_of_kind (kind_of m written)); nonnull = promise.nonnull; below = promise.below; number = promise.number }
 
 -- two promises say the same of a value of a type
 abbrev pub says_same : Module → (written : ℕ) → (one other : Option Promise) → Bool

@@ -73,11 +73,13 @@ fn interface(module: &Module, written: TypeId, promised: Option<Promise>) -> Pro
             layout: by_type,
             nonnull: false,
             below: None,
+            number: false,
         },
         Some(promise) => Promise {
             layout: promise.layout.or(by_type),
             nonnull: promise.nonnull,
             below: promise.below,
+            number: promise.number,
         },
     }
 }

@@ -17,9 +17,9 @@ use Rattle.ir_ast.specs.declared.op.Op.TheVariants as op
 use Rattle.types.specs.Elements.{body_in, body_named, body_of_layout, element_type, field_at, field_by, field_in, index_number, is_i32, is_integer as is_integer_type, number_in, part_after, part_at, part_of, type_at, written_out}
 use Rattle.types.specs.References.{is_opaque, is_opaque_type, struct_named}
 use Rattle.types.specs.ValueTypes.{instruction_at, instruction_in}
-use Rattle.certs.specs.Families.{family_after, family_in, family_of_element, family_of_op, family_of_part, family_of_pointer, family_of_slot, family_of_sort, family_of_struct, family_of_type, family_of_value, is_address, is_integer, is_opaque_text, is_reference, refers_to, same_bits}
+use Rattle.certs.specs.Families.{family_after, family_in, family_of_element, family_of_op, family_of_part, family_of_pointer, family_of_slot, family_of_sort, family_of_struct, family_of_type, family_of_value, is_address, is_integer, is_opaque_text, is_reference, may_be_outside, refers_to, same_bits}
 use Rattle.certs.specs.declared.family.Family.{Family}
-use Rattle.certs.specs.declared.family.Family.TheVariants.{Opaque, Nothing}
+use Rattle.certs.specs.declared.family.Family.TheVariants.{Number, Reference, AnyReference, Address, Opaque, Nothing}
 use Rattle.replaced_fits.specs.Closed.{AreBodyTypesBelow, ArePartsBelow, AreTypesBelow, IsClosed, IsClosedFunction}
 use Rattle.replaced_fits.proofs.Implies.{Implies}
 
@@ -33,6 +33,7 @@ pub record Grows (m n : Module) : Type 0 where
   pub sorts : n.sorts ≡ m.sorts
   pub shapes : n.shapes ≡ m.shapes
   pub opaque : is_opaque_text n ≡ is_opaque_text m
+  pub wide : n.wide ≡ m.wide
 
 -- what such a value is then: the same, or anything, where nothing was known of it
 abbrev pub Becomes : (before after : Family) → Type 0
@@ -59,6 +60,18 @@ integer before after (inr e) h = let no : false ≡ true = subst (λ x. is_integ
 pub bits : (before after : Family) (b : Option ℕ) → Becomes before after → Implies (is_some (same_bits before b)) (is_some (same_bits after b))
 bits before after b (inl e) h = subst (λ x. is_some (same_bits x b) ≡ true) (sym e) h
 bits before after b (inr e) h = let no : false ≡ true = subst (λ x. is_some (same_bits x b) ≡ true) e h in absurd cc
+
+wide_too : (m n : Module) (f : Family) → n.wide ≡ m.wide → may_be_outside m f ≡ true → may_be_outside n f ≡ true
+wide_too m n (Number bits) e h = h
+wide_too m n (Reference layout) e h = e ∙ h
+wide_too m n AnyReference e h = e ∙ h
+wide_too m n Address e h = e ∙ h
+wide_too m n Opaque e h = e ∙ h
+wide_too m n Nothing e h = h
+
+pub outside : (m n : Module) (before after : Family) → n.wide ≡ m.wide → Becomes before after → Implies (may_be_outside m before) (may_be_outside n after)
+outside m n before after wide (inl e) h = subst (λ x. may_be_outside n x ≡ true) (sym e) (wide_too m n before wide h)
+outside m n before after wide (inr e) h = let no : false ≡ true = subst (λ x. may_be_outside m x ≡ true) e h in absurd cc
 
 -- ---- types
 

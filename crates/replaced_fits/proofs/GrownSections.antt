@@ -1,5 +1,5 @@
 -- Sections that fit a function still fit it where the tables of its module have grown.
-use Rattle.std.proofs.Common.{◌≡◌, inl, inr, ℕ, zero, suc, Bool, true, false, not, ◌&&◌, ◌||◌, ◌==◌, List, [], ◌∷◌, length, slice_get, is_some, unwrap_or, Option, None, Some, refl, sym, ap, ◌∙◌, subst}
+use Rattle.std.proofs.Common.{◌≡◌, inl, inr, ℕ, zero, suc, Bool, true, false, not, ◌&&◌, ◌||◌, ◌==◌, List, [], ◌∷◌, length, slice_get, is_some, is_none, unwrap_or, Option, None, Some, refl, sym, ap, ◌∙◌, subst}
 use Rattle.std.specs.List.{list_all, list_any, zip}
 use Rattle.lemmas.specs.Lists.{any_at}
 use Rattle.lemmas.specs.Bools.{or_first, or_parts, or_second}
@@ -9,8 +9,8 @@ use Rattle.ir_ast.specs.declared.function.Parameter.{Parameter}
 use Rattle.ir_ast.specs.declared.module.Module.{Module}
 use Rattle.types.specs.Globals.{global_named, global_of_sort}
 use Rattle.types.specs.References.{struct_in}
-use Rattle.certs.specs.Families.{family_of_type, family_of_value, is_address, is_integer, is_reference, refers_to, same_bits}
-use Rattle.certs.specs.Fits.{all_named_listed, below_fits, blocks_fit, claim_fits, claims_fit, entry_is_empty, fact_fits, is_count, is_root_name, is_value, layout_fits, lists_once, parameter_fits, parameters_fit, promise_fits, promised_below_fits, promised_fits, promised_layout_fits, says_something, section_fits, stands_for, words_fit}
+use Rattle.certs.specs.Families.{family_of_type, family_of_value, is_address, is_integer, is_reference, may_be_outside, refers_to, same_bits}
+use Rattle.certs.specs.Fits.{all_named_listed, below_fits, blocks_fit, claim_fits, claims_fit, entry_is_empty, fact_fits, is_count, is_outside_fact, is_root_name, is_value, layout_fits, lists_once, parameter_fits, parameters_fit, promise_fits, promised_below_fits, promised_fits, promised_layout_fits, promised_number_fits, says_something, section_fits, stands_for, words_fit}
 use Rattle.certs.specs.declared.family.Family.{Family}
 use Rattle.certs.specs.declared.section.Claim.{Claim}
 use Rattle.certs.specs.declared.section.Claim.TheVariants as claim
@@ -19,7 +19,7 @@ use Rattle.certs.specs.declared.section.Fact.TheVariants as fact
 use Rattle.certs.specs.declared.section.Promise.{Promise}
 use Rattle.certs.specs.declared.section.Section.{Section}
 use Rattle.replaced_fits.specs.Closed.{IsClosed, IsClosedFunction}
-use Rattle.replaced_fits.proofs.GrownFamilies.{Becomes, Grows, address, bits, integer, reference, refers, type_becomes, value_becomes}
+use Rattle.replaced_fits.proofs.GrownFamilies.{Becomes, Grows, address, bits, integer, outside, reference, refers, type_becomes, value_becomes}
 use Rattle.replaced_fits.proofs.GrownSlots.{root_names_same}
 use Rattle.replaced_fits.proofs.Implies.{Implies, both_imply, each_implies, either_implies, itself}
 
@@ -58,7 +58,10 @@ module _ (m n : Module) (g : Grows m n) (closed : IsClosed m) where
     global_implies symbol h = ap (λ sorts. is_some (global_of_sort (slice_get sorts symbol))) g.sorts ∙ h
 
     fact_implies : (x : Fact) → Implies (fact_fits m before x) (fact_fits n after x)
-    fact_implies (fact.Number k below) = both_imply (is_some (same_bits before (small k))) (below_fits below) (is_some (same_bits after (small k))) (below_fits below) (bits before after (small k) becomes) (itself (below_fits below))
+    fact_implies (fact.Number k below) =
+        either_implies (is_some (same_bits before (small k)) && below_fits below) (is_outside_fact m before k below) (is_some (same_bits after (small k)) && below_fits below) (is_outside_fact n after k below)
+        (both_imply (is_some (same_bits before (small k))) (below_fits below) (is_some (same_bits after (small k))) (below_fits below) (bits before after (small k) becomes) (itself (below_fits below)))
+        (both_imply (may_be_outside m before) ((k == 64) && is_none below) (may_be_outside n after) ((k == 64) && is_none below) (outside m n before after g.wide becomes) (itself ((k == 64) && is_none below)))
     fact_implies (fact.Reference layout nonnull age same) = layout_implies layout
     fact_implies (fact.Address base words) = both_imply (is_address before) (words_fit words) (is_address after) (words_fit words) (address before after becomes) (itself (words_fit words))
     fact_implies (fact.GlobalAddress symbol) = both_imply (is_address before) (is_some (global_named m symbol)) (is_address after) (is_some (global_named n symbol)) (address before after becomes) (global_implies symbol)
@@ -74,13 +77,32 @@ module _ (m n : Module) (g : Grows m n) (closed : IsClosed m) where
     promised_null : (nonnull : Bool) → Implies (not nonnull || is_reference before) (not nonnull || is_reference after)
     promised_null nonnull = either_implies (not nonnull) (is_reference before) (not nonnull) (is_reference after) (itself (not nonnull)) (reference before after becomes)
 
+    -- nothing but an address outside is promised
+    abbrev stands_alone : Promise → Bool
+    stands_alone p = is_none p.layout && (not p.nonnull && is_none p.below)
+
+    promised_number : (p : Promise) → Implies (promised_number_fits m before p) (promised_number_fits n after p)
+    promised_number p =
+        either_implies (not p.number) (may_be_outside m before && stands_alone p) (not p.number) (may_be_outside n after && stands_alone p) (itself (not p.number))
+        (both_imply (may_be_outside m before) (stands_alone p) (may_be_outside n after) (stands_alone p) (outside m n before after g.wide becomes) (itself (stands_alone p)))
+
+    -- something that fits is promised, and a layout that fits
+    abbrev begins_before : Promise → Bool
+    begins_before p = says_something p && promised_number_fits m before p && promised_layout_fits m before p.layout
+
+    abbrev begins_after : Promise → Bool
+    begins_after p = says_something p && promised_number_fits n after p && promised_layout_fits n after p.layout
+
+    begins_imply : (p : Promise) → Implies (begins_before p) (begins_after p)
+    begins_imply p =
+        both_imply (says_something p && promised_number_fits m before p) (promised_layout_fits m before p.layout) (says_something p && promised_number_fits n after p) (promised_layout_fits n after p.layout)
+        (both_imply (says_something p) (promised_number_fits m before p) (says_something p) (promised_number_fits n after p) (itself (says_something p)) (promised_number p))
+        (promised_layout p.layout)
+
     promise_implies : (p : Promise) → Implies (promise_fits m before p) (promise_fits n after p)
     promise_implies p =
-        both_imply (says_something p && promised_layout_fits m before p.layout && (not p.nonnull || is_reference before)) (promised_below_fits before p.below)
-        (says_something p && promised_layout_fits n after p.layout && (not p.nonnull || is_reference after)) (promised_below_fits after p.below)
-        (both_imply (says_something p && promised_layout_fits m before p.layout) (not p.nonnull || is_reference before) (says_something p && promised_layout_fits n after p.layout) (not p.nonnull || is_reference after)
-        (both_imply (says_something p) (promised_layout_fits m before p.layout) (says_something p) (promised_layout_fits n after p.layout) (itself (says_something p)) (promised_layout p.layout))
-        (promised_null p.nonnull))
+        both_imply (begins_before p && (not p.nonnull || is_reference before)) (promised_below_fits before p.below) (begins_after p && (not p.nonnull || is_reference after)) (promised_below_fits after p.below)
+        (both_imply (begins_before p) (not p.nonnull || is_reference before) (begins_after p) (not p.nonnull || is_reference after) (begins_imply p) (promised_null p.nonnull))
         (promised_below p.below)
 
     promised_implies : (promise : Option Promise) → Implies (promised_fits m before promise) (promised_fits n after promise)

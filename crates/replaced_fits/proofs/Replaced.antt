@@ -63,6 +63,9 @@ module _ (grown : ReplacingKeepsTables) (m : Module) (func : ℕ) (code : Text) 
   declares_same : n.declares ≡ m.declares
   declares_same = sym (ap (λ (x : Module). x.declares) is.2)
 
+  wide_same : n.wide ≡ m.wide
+  wide_same = sym (ap (λ (x : Module). x.wide) is.2)
+
   grows : is_opaque_text n ≡ is_opaque_text m → Grows m n
   grows opaque = record {
     types = stay.types;
@@ -73,6 +76,7 @@ module _ (grown : ReplacingKeepsTables) (m : Module) (func : ℕ) (code : Text) 
     sorts = sorts_same;
     shapes = shapes_same;
     opaque = opaque;
+    wide = wide_same;
   }
 
   -- the same functions outside are trusted, and may be; the same layouts have numbers, and may have
@@ -81,10 +85,8 @@ module _ (grown : ReplacingKeepsTables) (m : Module) (func : ℕ) (code : Text) 
     sym (ap (λ (x : Module). x.trusted) is.2),
     λ foreign. both_imply (functions_fit m foreign.functions) (numbers_fit m foreign.numbers) (functions_fit n foreign.functions) (numbers_fit n foreign.numbers)
         (λ fit. functions_same m n sorts_same (λ d. ap (λ x. is_outside_declare (slice_get x d)) declares_same) wide_same foreign.functions ∙ fit)
-        (numbers_imply m n (grows opaque) closed wide_same foreign.numbers),
-  ) where
-    wide_same : n.wide ≡ m.wide
-    wide_same = sym (ap (λ (x : Module). x.wide) is.2)
+        (numbers_imply m n (grows opaque) closed foreign.numbers),
+  )
 
   -- the functions are the module's, but for the one that is put in its place
   abbrev put : Option Function

@@ -6,6 +6,7 @@ use Rattle.std.specs.Io.KnownBytes.{Appends}
 use Rattle.ir_ast.specs.declared.module.Module.{Module}
 use Rattle.explain.specs.Codes.{name_of}
 use Rattle.explain.specs.declared.code.Code.{Code}
+use Rattle.explain.specs.declared.code.Code.TheVariants.{L7}
 use Rattle.fault_codes.specs.FaultCodes.{cert_code, layout_code, read_code, trace_code}
 use Rattle.fault_codes.specs.FaultPlaces.{cert_place, read_place, trace_place}
 use Rattle.ir_tokens.specs.declared.position.Position.{Position}
@@ -141,6 +142,10 @@ of_trace_fault fault = of_fault (trace_code fault) (trace_place fault) []
 -- the name of a function outside with its sign, after a blank
 abbrev pub trusted_name : Module → (symbol : ℕ) → List ℕ
 trusted_name m symbol = codes " @" ++ found_name (slice_get m.symbols symbol)
+
+-- a text that is to be lowered has this function outside, which gives an address
+abbrev pub of_address_given : Module → (symbol : ℕ) → Answer
+of_address_given m symbol = of_fault (Some L7) None (trusted_name m symbol)
 
 -- a line of the functions outside that are trusted, if there are some
 abbrev pub trusts_line : Module → (trusts : List ℕ) → List ℕ

@@ -1,5 +1,5 @@
 //! How faults of texts and layouts are printed, each a line that goes to the standard error.
-ghost use Rattle.std.specs.Prelude.{◌≡◌, ◌++◌, [], ◌∷◌, IfOk, OnOk, codes};
+ghost use Rattle.std.specs.Prelude.{◌≡◌, ◌++◌, [], ◌∷◌, IfOk, None, OnOk, Some, codes};
 ghost use Rattle.std.specs.Io.KnownBytes.{Appends};
 ghost use Rattle.std.specs.Option.{option_copied};
 ghost use Rattle.explain.specs.Codes.{name_of};
@@ -11,12 +11,13 @@ use crate::found::{
     write_found_name,
 };
 use crate::status::{STATUS_MEMORY, STATUS_UNREADABLE, STATUS_USAGE};
+use crate::trusts::write_trusted_name;
 use certificate::CertFault;
 use explain::Code;
 use fault_codes::{
     cert_code, cert_place, layout_code, read_code, read_place, trace_code, trace_place,
 };
-use ir_ast::Module;
+use ir_ast::{Module, SymbolId};
 use ir_text::ReadFault;
 use ir_tokens::Position;
 use layout::LayoutFault;
@@ -175,6 +176,27 @@ pub fn no_layouts<W: Write>(err: &mut W, of_module: &Module, fault: LayoutFault)
         }
         None => memory(err),
     }
+}
+
+/// A fault of a function outside, with its name.
+fn of_outside<W: Write>(
+    err: &mut W,
+    code: Code,
+    of_module: &Module,
+    symbol: SymbolId,
+) -> io::Result<u8>
+    ensures { IfOk result (λ status. IsTold (W.contents err.old) (W.contents err.new) status (spec.of_fault (Some code) None (spec.trusted_name of_module.now symbol))) }
+{
+    begin_fault(err, code, None)?;
+    write_trusted_name(err, of_module, symbol)?;
+    end_fault(err)
+}
+
+/// A text that is to be lowered has a function outside that gives an address: `error L7 @malloc`.
+pub fn address_given<W: Write>(err: &mut W, of_module: &Module, symbol: SymbolId) -> io::Result<u8>
+    ensures { IfOk result (λ status. IsTold (W.contents err.old) (W.contents err.new) status (spec.of_address_given of_module.now symbol)) }
+{
+    of_outside(err, Code::L7, of_module, symbol)
 }
 
 /// A text that is no text of edits: `error C1 1:6`.

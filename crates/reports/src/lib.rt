@@ -15,7 +15,7 @@ mod trusts;
 mod unreadable;
 mod verdicts;
 
-pub use faults::{memory, no_certificate, no_layouts};
+pub use faults::{address_given, memory, no_certificate, no_layouts};
 pub use files::{
     Certified, File, Files, ModuleFile, Traced, Unread, bytes_of, edits_in, file_of, is_wide,
     kept_files, module_in, path_of, program_in, read_certified, read_traced, shaped_in, trace_in,

@@ -16,7 +16,12 @@ use std::alloc::Global;
 use std::io;
 use std::io::Write;
 
-fn write_trusted_name<W: Write>(out: &mut W, of_module: &Module, symbol: SymbolId) -> io::Result<()>
+/// The name of a function outside, after a blank.
+pub fn write_trusted_name<W: Write>(
+    out: &mut W,
+    of_module: &Module,
+    symbol: SymbolId,
+) -> io::Result<()>
     ensures { OnOk result (Appends (W.contents out.old) (W.contents out.new) (spec.trusted_name of_module.now symbol)) }
 {
     write!(out, " @")?;

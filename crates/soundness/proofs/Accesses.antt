@@ -30,7 +30,7 @@ use Rattle.block_rules.specs.Operands as o
 use Rattle.block_rules.specs.Places as r
 use Rattle.block_rules.specs.FirstFailing.{first_failing}
 use Rattle.block_rules.specs.Signature.{is_runtime_type, is_declared_as, is_written_as}
-use Rattle.type_kinds.specs.TypeKinds.{kind_of, kind_at, place_kind, is_any_reference, is_pointer, may_be_reference}
+use Rattle.type_kinds.specs.TypeKinds.{kind_of, kind_at, is_any_reference, is_pointer, may_be_reference}
 use Rattle.machine.specs.declared.action.Action.{Action}
 use Rattle.machine.specs.declared.answer.Answer.{Answer}
 use Rattle.machine.specs.declared.frame.Frame.{Frame}

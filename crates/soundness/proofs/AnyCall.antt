@@ -16,7 +16,7 @@ use Rattle.facts.specs.Facts.{FactSet}
 use Rattle.block_rules.specs.declared.callee.Callee.{Callee}
 use Rattle.block_rules.specs.declared.callee.Callee.TheVariants.{OfRuntime, OfModule, Foreign, NoFunction}
 use Rattle.block_rules.specs.declared.instr_context.InstrContext.{InstrContext}
-use Rattle.block_rules.specs.Calls.{call_conditions, refused_conditions, foreign_conditions, after_integer_call, after_call}
+use Rattle.block_rules.specs.Calls.{call_conditions, refused_conditions, foreign_conditions, after_foreign_call, after_call}
 use Rattle.block_rules.specs.FirstFailing.{first_failing}
 use Rattle.block_rules.specs.Signature.{callee_of}
 use Rattle.machine.specs.declared.action.Action.{Action}
@@ -82,10 +82,10 @@ module _ (heap : Setup) (p : LaidOut) (certs : List Section) (reaches : Bool) (f
 
   -- a call of a function outside
   outside_goes : (callee : ℕ) (arguments : List Argument) (number : ℕ) → IsForeign p.of_module callee (length arguments) number → first_failing (call_conditions p certs f table here facts returned arguments (Foreign number)) ≡ None
-      → Goes heap p table frame.slots reaches guarded log (after_integer_call p.of_module result returned facts) (asked arguments callee (a.declare_of p.of_module callee) (runtime_called p.of_module callee)) (afterwards arguments (runtime_called p.of_module callee))
+      → Goes heap p table frame.slots reaches guarded log (after_foreign_call p.of_module result returned facts) (asked arguments callee (a.declare_of p.of_module callee) (runtime_called p.of_module callee)) (afterwards arguments (runtime_called p.of_module callee))
   outside_goes callee arguments number c e =
-      subst (λ x. Goes heap p table frame.slots reaches guarded log (after_integer_call p.of_module result returned facts) (asked arguments callee (a.declare_of p.of_module callee) x) (afterwards arguments x)) (sym c.no_runtime)
-      (subst (λ x. Goes heap p table frame.slots reaches guarded log (after_integer_call p.of_module result returned facts) (asked arguments callee x None) (afterwards arguments None)) (sym c.is_declared)
+      subst (λ x. Goes heap p table frame.slots reaches guarded log (after_foreign_call p.of_module result returned facts) (asked arguments callee (a.declare_of p.of_module callee) x) (afterwards arguments x)) (sym c.no_runtime)
+      (subst (λ x. Goes heap p table frame.slots reaches guarded log (after_foreign_call p.of_module result returned facts) (asked arguments callee x None) (afterwards arguments None)) (sym c.is_declared)
       (foreign_goes heap p certs reaches f table guarded log here cells facts frame h result returned (a.function_numbered p.of_module (a.number_called p.of_module callee)) c.declare arguments c.trusted
       (subst (λ x. first_failing (foreign_conditions p.of_module f table here facts returned arguments x) ≡ None) c.there e)))
 

@@ -1,5 +1,5 @@
 -- Calls of functions of floating point numbers.
-use Rattle.std.proofs.Common.{◌≡◌, ℕ, Bool, List, length, refl, ◌∙◌, true, Option, Some, None, slice_get}
+use Rattle.std.proofs.Common.{◌≡◌, ℕ, ◌<◌, ◌^◌, Bool, List, length, refl, sym, ap, ◌∙◌, true, Option, Some, None, slice_get}
 use Rattle.std.specs.Prelude.{◌==◌, map}
 use Rattle.std.specs.List.{list_all, zip}
 use Rattle.lemmas.specs.Numbers.{test_true}
@@ -21,20 +21,34 @@ use Rattle.block_rules.specs.declared.signature.RuntimeType.TheVariants as types
 use Rattle.block_rules.specs.Calls.{all_values, integer_conditions, after_integer_call}
 use Rattle.block_rules.specs.FirstFailing.{first_failing}
 use Rattle.block_rules.specs.Signature.{signature_of, is_runtime_type, is_argument_of, is_declared_as, is_written_as}
-use Rattle.type_kinds.specs.TypeKinds.{kind_of}
+use Rattle.type_kinds.specs.declared.type_kind.TypeKind.TheVariants.{Bits}
+use Rattle.type_kinds.specs.TypeKinds.{kind_of, is_void, is_integer}
+use Rattle.machine.specs.declared.action.Action.TheVariants.{Foreign}
 use Rattle.machine.specs.declared.frame.Frame.{Frame}
+use Rattle.machine.specs.declared.value.Value.TheVariants as value
 use Rattle.machine.specs.Asks as a
 use Rattle.machine.specs.Log.{Log}
 use Rattle.machine.specs.Machine as mc
 use Rattle.soundness.specs.Goes.{Goes}
 use Rattle.soundness.specs.Meaning.{Cells, Guarded, Holds}
 use Rattle.soundness.proofs.Callees.{float_declared, float_written}
-use Rattle.soundness.proofs.ForeignCalls.{asks_number, gives_number}
 use Rattle.soundness.proofs.IntegerCalls.{all_numbers}
+use Rattle.soundness.proofs.KindLemmas.{bits_are, integer_same, void_same}
+use Rattle.soundness.proofs.Numbers.{defines}
 use Rattle.soundness.proofs.RulesHold.{rules_hold}
 use Rattle.soundness.proofs.Steps.{bits_are_so, goes_foreign}
 
 module _ (heap : Setup) (p : LaidOut) (certs : List Section) (reaches : Bool) (f : Function) (table : SlotTable) (guarded : Guarded) (log : Log) (here : InstrContext) (cells : Cells) (facts : FactSet) (frame : Frame) (h : Holds heap p table guarded log cells facts frame.registers frame.slots) (result : Option ℕ) (returned : ℕ) where
+  -- it gives a number of its type
+  asks_number : (bits : ℕ) → kind_of p.of_module returned ≡ Bits bits → a.asked_outside (slice_get p.of_module.types returned) ≡ Foreign bits
+  asks_number bits kind =
+      rw (sym (void_same p.of_module returned) ∙ ap is_void kind, sym (integer_same p.of_module returned) ∙ ap is_integer kind) (ap Foreign (bits_are p.of_module returned bits kind))
+
+  gives_number : (bits : ℕ) → kind_of p.of_module returned ≡ Bits bits → (name : Option ℕ) (n : ℕ) → n < 2 ^ bits
+      → (more : Cells) × Holds heap p table guarded log more (after_integer_call p.of_module name returned facts) (mc.set_register name (value.Number n) frame).registers (mc.set_register name (value.Number n) frame).slots
+  gives_number bits kind None n fits = (cells, h)
+  gives_number bits kind (Some v) n fits = rw kind (cells, defines heap p certs reaches f table guarded log cells facts frame h v bits None (value.Number n) (record { number = n; is = refl; fits = fits; under = tt }))
+
   -- a call of a function of floating point numbers that the rules allow
   pub float_goes : (defined : Option Function) (function : FloatFunction) (bits : ℕ) (d : Declare) (arguments : List Argument) → is_declared_as p.of_module d (runtime.Float function bits) ≡ true
       → (length arguments == length (signature_of (runtime.Float function bits)).parameters) ≡ true → first_failing (integer_conditions p.of_module f table here facts (runtime.Float function bits) returned arguments) ≡ None
@@ -52,5 +66,4 @@ module _ (heap : Setup) (p : LaidOut) (certs : List Section) (reaches : Bool) (f
       let asked : a.call_action p f table frame.registers returned arguments (Some d) defined (Some (runtime.Float function bits)) ≡ a.asked_outside (slice_get p.of_module.types returned) =
       rw (float_declared p.of_module function bits d declared, float_written p.of_module function bits returned arguments same k2.1, numbers) refl in
       goes_foreign heap p table frame.slots reaches guarded log _ _ _ bits
-      (asked ∙ asks_number heap p certs reaches f table guarded log here cells facts frame h result returned bits kind)
-      (gives_number heap p certs reaches f table guarded log here cells facts frame h result returned bits kind result)
+      (asked ∙ asks_number bits kind) (gives_number bits kind result)

@@ -1,6 +1,6 @@
 -- Calls of functions of integers.
-use Rattle.std.proofs.Common.{◌≡◌, ℕ, Bool, List, [], ◌∷◌, length, refl, sym, ◌∙◌, arith, true, Option, Some, None, slice_set}
-use Rattle.std.specs.Prelude.{◌==◌, ◌&&◌, map}
+use Rattle.std.proofs.Common.{◌≡◌, ℕ, Bool, List, [], ◌∷◌, length, refl, arith, true, Option, Some, None}
+use Rattle.std.specs.Prelude.{◌==◌, map}
 use Rattle.std.specs.List.{list_all, zip}
 use Rattle.lemmas.specs.Numbers.{test_true}
 use Rattle.lemmas.specs.Bools.{and_parts}
@@ -25,7 +25,6 @@ use Rattle.block_rules.specs.Operands as o
 use Rattle.block_rules.specs.Signature.{signature_of, is_runtime_type, is_argument_of, is_declared_as, is_written_as}
 use Rattle.type_kinds.specs.TypeKinds.{kind_of}
 use Rattle.machine.specs.declared.frame.Frame.{Frame}
-use Rattle.machine.specs.declared.value.Value.{Value}
 use Rattle.machine.specs.Asks as a
 use Rattle.machine.specs.Kinds.{number_in}
 use Rattle.machine.specs.Log.{Log}

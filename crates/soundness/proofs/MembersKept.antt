@@ -26,7 +26,7 @@ module _ (p : LaidOut) (certs : List Section) (table : SlotTable) (facts : FactS
   op_members (Some v) (op.Number x) = named_number p.of_module facts members v x
   op_members (Some v) (op.Element x) = after_element_members facts members p v x.source x.base x.indices
   op_members (Some v) (op.Cast x) = cast_members facts members p.of_module table v x.from x.to x.operand
-  op_members (Some v) (op.Choice x) = select_members v (kind_of p.of_module x.written) x.chosen x.other facts members
+  op_members (Some v) (op.Choice x) = select_members p.of_module v (kind_of p.of_module x.written) x.chosen x.other facts members
 
 pub members_stay : MembersStay
 members_stay p certs table facts instr members = op_members p certs table facts members instr.result instr.op

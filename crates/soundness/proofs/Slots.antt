@@ -22,7 +22,6 @@ use Rattle.block_rules.specs.Rules.{may_hold, names_root}
 use Rattle.type_kinds.specs.TypeKinds.{kind_of, is_integer}
 use Rattle.machine.specs.declared.value.Value.{Value}
 use Rattle.machine.specs.declared.value.Value.TheVariants as value
-use Rattle.machine.specs.Kinds as k
 use Rattle.machine.specs.Machine.{slot_value, initial}
 use Rattle.soundness.proofs.KindLemmas.{integer_same}
 use Rattle.soundness.proofs.Lists.{at_set, at_set_got, replicated}

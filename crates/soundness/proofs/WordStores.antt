@@ -54,7 +54,7 @@ use Rattle.soundness.proofs.SameKinds.{part_refers}
 use Rattle.soundness.proofs.WordReads.{bits_of_word}
 use Rattle.soundness.proofs.Steps.{available, integer_is, no_number, integer_refers, no_value, usable}
 use Rattle.soundness.proofs.Stored.{class_stored}
-use Rattle.soundness.proofs.Touches.{Touches, IsPlace, place_value_of, place_at, no_slot_at, on_base, on_global, known_place, word_touches}
+use Rattle.soundness.proofs.Touches.{Touches, IsPlace, place_value_of, place_at, no_slot_at, on_base, on_global, known_place, place_inside, word_touches}
 
 -- an operand whose value is stored: available, a value of its type, not stale, and no slot
 pub record IsStored (p : LaidOut) (f : Function) (table : SlotTable) (facts : FactSet) (written : ℕ) (x : Operand) : Type 0 where
@@ -283,22 +283,24 @@ module _ (heap : Setup) (p : LaidOut) (certs : List Section) (reaches : Bool) (f
   -- a store to an operand that is a place
   pub store_goes : (result : Option ℕ) (stored : ℕ) (x : Operand) (place_type : ℕ) (place : Operand) → IsStored p f table facts stored x → IsPlace p f table facts place_type place
       → r.stores_known p facts (kind_of p.of_module stored) (o.known_of facts x) (o.place_known p.of_module facts place_type place) ≡ true → needs_no_barrier p.of_module table facts stored place (o.place_known p.of_module facts place_type place) ≡ true
-      → Goes heap p table frame.slots reaches guarded log (after_memory p table result (memory.Store stored x place_type place) facts)
+      → (k.is_usable_outside p.of_module f table frame.registers place_type place ≡ false) × Goes heap p table frame.slots reaches guarded log (after_memory p table result (memory.Store stored x place_type place) facts)
       (a.store_action p table stored (k.is_usable p.of_module f table frame.registers stored x) (value_of p.of_module frame.registers stored x) (k.slot_at_place p.of_module f table place_type place) (k.address_at_place p.of_module f table frame.registers place_type place))
       (λ given. mc.set_slot (k.slot_at_place p.of_module f table place_type place) (value_of p.of_module frame.registers stored x) frame)
   store_goes result stored x place_type place i s stores k6 =
-      let t = place_takes stored x place_type place i s stores in
-      subst (λ y. Goes heap p table frame.slots reaches guarded log (r.after_store (o.known_of facts x) y facts)
-      (a.store_action p table stored (k.is_usable p.of_module f table frame.registers stored x) new (k.slot_at_place p.of_module f table place_type place) (k.address_at_place p.of_module f table frame.registers place_type place))
-      (λ given. mc.set_slot (k.slot_at_place p.of_module f table place_type place) new frame)) (sym s.no_slot)
-      (subst (λ y. Goes heap p table frame.slots reaches guarded log (drop_fresh_of (o.known_of facts x) facts)
-      (a.store_action p table stored (k.is_usable p.of_module f table frame.registers stored x) new y (k.address_at_place p.of_module f table frame.registers place_type place)) (λ given. mc.set_slot y new frame))
-      (sym (no_slot_at p f table place_type place s.no_slot))
-      (subst (λ y. Goes heap p table frame.slots reaches guarded log (drop_fresh_of (o.known_of facts x) facts) (if y then a.plain_action p stored new (k.address_at_place p.of_module f table frame.registers place_type place) else Wrong) (λ given. frame))
-      (sym (usable heap p certs reaches f table guarded log cells facts frame h stored x i.there i.typed i.no_slot))
-      (subst (λ y. Goes heap p table frame.slots reaches guarded log (drop_fresh_of (o.known_of facts x) facts) (a.plain_action p stored new y) (λ given. frame))
-      (sym (place_at heap p certs reaches f table guarded log fits cells facts frame h place_type place s t.touches.at t.touches.is))
-      (plain_goes stored x i (place_value_of p frame.registers place_type place) t.kind t.touches t.takes_it (λ refers. t.own (plainly stored place (o.place_known p.of_module facts place_type place) s.no_slot k6 refers)))))) where
+      let t = place_takes stored x place_type place i s stores in (
+        place_inside p f table frame.registers place_type place t.touches.at t.touches.is,
+        subst (λ y. Goes heap p table frame.slots reaches guarded log (r.after_store (o.known_of facts x) y facts)
+            (a.store_action p table stored (k.is_usable p.of_module f table frame.registers stored x) new (k.slot_at_place p.of_module f table place_type place) (k.address_at_place p.of_module f table frame.registers place_type place))
+            (λ given. mc.set_slot (k.slot_at_place p.of_module f table place_type place) new frame)) (sym s.no_slot)
+            (subst (λ y. Goes heap p table frame.slots reaches guarded log (drop_fresh_of (o.known_of facts x) facts)
+            (a.store_action p table stored (k.is_usable p.of_module f table frame.registers stored x) new y (k.address_at_place p.of_module f table frame.registers place_type place)) (λ given. mc.set_slot y new frame))
+            (sym (no_slot_at p f table place_type place s.no_slot))
+            (subst (λ y. Goes heap p table frame.slots reaches guarded log (drop_fresh_of (o.known_of facts x) facts) (if y then a.plain_action p stored new (k.address_at_place p.of_module f table frame.registers place_type place) else Wrong) (λ given. frame))
+            (sym (usable heap p certs reaches f table guarded log cells facts frame h stored x i.there i.typed i.no_slot))
+            (subst (λ y. Goes heap p table frame.slots reaches guarded log (drop_fresh_of (o.known_of facts x) facts) (a.plain_action p stored new y) (λ given. frame))
+            (sym (place_at heap p certs reaches f table guarded log fits cells facts frame h place_type place s t.touches.at t.touches.is))
+            (plain_goes stored x i (place_value_of p frame.registers place_type place) t.kind t.touches t.takes_it (λ refers. t.own (plainly stored place (o.place_known p.of_module facts place_type place) s.no_slot k6 refers)))))),
+      ) where
         new : Value
         new = value_of p.of_module frame.registers stored x
 

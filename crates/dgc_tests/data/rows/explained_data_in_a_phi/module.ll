@@ -1,8 +1,0 @@
-@d = private unnamed_addr constant [6 x i8] c"hello\00", align 1
-define void @f() gc "shadow-stack" {
-entry:
-  br label %next
-next:
-  %p = phi ptr [ @d, %entry ]
-  ret void
-}

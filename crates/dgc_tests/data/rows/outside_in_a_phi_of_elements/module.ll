@@ -1,0 +1,26 @@
+%N = type { i64, ptr }
+@a = private constant [2 x i8] c"a\00"
+@b = private constant [2 x i8] c"b\00"
+@table = private constant [4 x i32] [i32 1, i32 2, i32 3, i32 4]
+@stderr = external global ptr
+@count = external global i32
+declare i32 @puts(ptr)
+declare ptr @getenv(ptr)
+declare ptr @dg_alloc(i32)
+declare void @dg_safepoint()
+declare void @llvm.gcroot(ptr, ptr)
+declare ptr @llvm.gcread(ptr, ptr)
+declare void @llvm.gcwrite(ptr, ptr, ptr)
+define i32 @f() gc "shadow-stack" {
+entry:
+  %s = call ptr @getenv(ptr @a)
+  br label %loop
+loop:
+  %p = phi ptr [ %s, %entry ], [ %q, %loop ]
+  %n = load i8, ptr %p
+  %q = getelementptr i8, ptr %p, i64 1
+  %c = icmp eq i8 %n, 0
+  br i1 %c, label %out, label %loop
+out:
+  ret i32 0
+}

@@ -1,0 +1,28 @@
+%N = type { i64, ptr }
+@a = private constant [2 x i8] c"a\00"
+@b = private constant [2 x i8] c"b\00"
+@table = private constant [4 x i32] [i32 1, i32 2, i32 3, i32 4]
+@stderr = external global ptr
+@count = external global i32
+declare i32 @puts(ptr)
+declare ptr @getenv(ptr)
+declare ptr @dg_alloc(i32)
+declare void @dg_safepoint()
+declare void @llvm.gcroot(ptr, ptr)
+declare ptr @llvm.gcread(ptr, ptr)
+declare void @llvm.gcwrite(ptr, ptr, ptr)
+define i32 @f(i1 %c) gc "shadow-stack" {
+entry:
+  %x = call ptr @dg_alloc(i32 0)
+  %d = icmp ne ptr %x, null
+  br i1 %d, label %one, label %no
+one:
+  %p = getelementptr %N, ptr %x, i32 0, i32 0
+  br label %two
+two:
+  %q = phi ptr [ %p, %one ]
+  %n = load i64, ptr %q
+  ret i32 0
+no:
+  ret i32 0
+}

@@ -1,0 +1,20 @@
+%N = type { i64, ptr }
+@a = private constant [2 x i8] c"a\00"
+@b = private constant [2 x i8] c"b\00"
+@table = private constant [4 x i32] [i32 1, i32 2, i32 3, i32 4]
+@stderr = external global ptr
+@count = external global i32
+declare i32 @puts(ptr)
+declare ptr @getenv(ptr)
+declare ptr @dg_alloc(i32)
+declare void @dg_safepoint()
+declare void @llvm.gcroot(ptr, ptr)
+declare ptr @llvm.gcread(ptr, ptr)
+declare void @llvm.gcwrite(ptr, ptr, ptr)
+declare i32 @printf(ptr, ...)
+@.str = private constant [3 x i8] c"%s\00"
+define i32 @f(ptr %p) gc "shadow-stack" {
+entry:
+  %r = call i32 (ptr, ...) @printf(ptr @.str, ptr %p)
+  ret i32 0
+}

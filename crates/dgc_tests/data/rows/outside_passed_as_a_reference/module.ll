@@ -1,0 +1,18 @@
+%N = type { i64, %N* }
+@a = private constant [2 x i8] c"a\00"
+@count = external global i32
+declare i32 @puts(i8*)
+declare i8* @getenv(i8*)
+declare i32* @counts()
+declare i8* @dg_alloc(i32)
+define i32 @f() gc "shadow-stack" {
+entry:
+  %p = call i8* @getenv(i8* null)
+  %q = bitcast i8* %p to %N*
+  call void @take(%N* %q)
+  ret i32 0
+}
+define void @take(%N* %x) gc "shadow-stack" {
+entry:
+  ret void
+}

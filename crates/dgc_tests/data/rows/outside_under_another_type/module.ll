@@ -1,0 +1,14 @@
+%N = type { i64, %N* }
+@a = private constant [2 x i8] c"a\00"
+@count = external global i32
+declare i32 @puts(i8*)
+declare i8* @getenv(i8*)
+declare i32* @counts()
+declare i8* @dg_alloc(i32)
+define i32 @f() gc "shadow-stack" {
+entry:
+  %p = call i32* @counts()
+  %q = bitcast i32* %p to i8*
+  %r = call i32 @puts(i8* %q)
+  ret i32 0
+}
