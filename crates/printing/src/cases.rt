@@ -15,15 +15,15 @@ pub(crate) struct Page {
 
 /// A case whose mends have words of their own.
 fn said(sentence: &'static str, label: &'static str) -> Page {
-    page(sentence, label, "", "")
+    worded(sentence, label, "", "")
 }
 
 /// A case with nothing beside the caret.
 fn mended(sentence: &'static str, mend: &'static str) -> Page {
-    page(sentence, "", mend, "")
+    worded(sentence, "", mend, "")
 }
 
-fn page(
+fn worded(
     sentence: &'static str,
     label: &'static str,
     mend: &'static str,
@@ -92,13 +92,13 @@ fn label_of_store(target: &Target) -> &'static str {
 
 fn of_beyond(beyond: &Beyond) -> Page {
     match beyond {
-        Beyond::Signed => page(
+        Beyond::Signed => worded(
             "{it} may be negative: an index is a number with a sign",
             INDEX,
             "write it with more bits, which are zero: zext {type} {it} to i64, and lead by that",
             "",
         ),
-        Beyond::Words => page(
+        Beyond::Words => worded(
             "{it} is small enough, and some of these elements are outside the words of {base}",
             INDEX,
             "write the struct type of {base}, or compare {it} with a smaller number and branch before",
@@ -245,7 +245,7 @@ fn of_promise(word: &Unkept) -> Page {
 /// K15, up to the claim.
 fn of_edge(missing: &Missing) -> Page {
     let (mend, other) = mends_of_edge(missing);
-    page(sentence_of_edge(missing), "this edge", mend, other)
+    worded(sentence_of_edge(missing), "this edge", mend, other)
 }
 
 fn sentence_of_edge(missing: &Missing) -> &'static str {
@@ -356,13 +356,13 @@ fn of_entries(entries: &Entries) -> Page {
 /// K18 of a function outside.
 fn of_outside(outside: &Outside) -> Page {
     match outside {
-        Outside::OnlyDeclared => page(
+        Outside::OnlyDeclared => worded(
             "{callee} is only declared, and the module is the whole program",
             "",
             "define {callee} in this module, as llvm-link does of two texts",
             "or read it with `--forms wide`, where a certificate may trust functions outside (docs/CERTIFICATES.md)",
         ),
-        Outside::Untrusted => page(
+        Outside::Untrusted => worded(
             "{callee} is outside of the module, and the certificate does not trust it",
             "",
             "write `foreign {callee} none` after the first line of the certificate, if {callee} keeps what that promises",
@@ -378,13 +378,13 @@ fn of_outside(outside: &Outside) -> Page {
 /// A rule that says the same of each instruction.
 fn of_rule(rule: Rule) -> Page {
     match rule {
-        Rule::K9 => page(
+        Rule::K9 => worded(
             "this llvm.gcroot may not be here",
             "",
             "call llvm.gcroot once for each slot, in the entry block after the allocas and before all else",
             "its first argument is the slot, and its second one null",
         ),
-        Rule::K10 => page(
+        Rule::K10 => worded(
             "{it} is a slot, and is used as a value",
             "the slot itself, and not what it holds",
             "load from {it} first, and use what is loaded",
@@ -409,7 +409,7 @@ fn of_function(rule: Rule) -> Page {
             "{function} is marked `none`, and {callee} may reach a safepoint",
             "write `function {function} may`; what its callers hold over a call of it they then load again after it",
         ),
-        Rule::K18 => page(
+        Rule::K18 => worded(
             "{callee} is no function of the module or of the runtime with these types",
             "",
             "define {callee} in the module, or call it with the types that it is defined or declared with",
