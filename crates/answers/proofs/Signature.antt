@@ -1,6 +1,6 @@
 -- With which types a function is written, and what a call of a declared name is of, does not depend on functions.
 use Rattle.std.specs.List.{list_all, list_any, zip}
-use Rattle.std.specs.Prelude.{List, None, Option, Some, if◌then◌else◌, length, refl, ℕ, ◌&&◌, ◌||◌, ◌==◌, ◌≡◌}
+use Rattle.std.specs.Prelude.{List, None, Option, Some, if◌then◌else◌, length, nat_le, refl, ℕ, ◌&&◌, ◌||◌, ◌==◌, ◌≡◌}
 use Rattle.block_rules.specs.Signature.{callable, callable_declare, is_argument_of, is_declared_as, is_foreign, is_of_type, is_runtime_type, is_written_as, may_be_given, signature_of}
 use Rattle.type_kinds.specs.TypeKinds.{is_any_reference, is_bits, is_void}
 use Rattle.block_rules.specs.declared.callee.Callee.TheVariants.{Foreign, NoFunction, OfRuntime}
@@ -47,7 +47,7 @@ is_written_as_same m fs = λ along returned arguments runtime. let signature = s
 
 pub is_foreign_same : (m : Module) (fs : List Function) → is_foreign (with_functions m fs) ≡ is_foreign m
 is_foreign_same m fs = λ along arguments declared. m.wide && (list_any (λ s. s == declared.symbol) m.trusted.functions
-    && (may_be_given (kind_of_same m fs along declared.returned) && (arguments == length declared.parameters)))
+    && (may_be_given (kind_of_same m fs along declared.returned) && nat_le (length declared.parameters) arguments))
 
 callable_by : (m : Module) (fs : List Function) (arguments number : ℕ) (declared : Declare) (runtime : Option Runtime) → callable (with_functions m fs) arguments number declared runtime ≡ callable m arguments number declared runtime
 callable_by m fs arguments number declared None = λ along. if is_foreign_same m fs along arguments declared then Foreign number else NoFunction None
