@@ -20,8 +20,8 @@ loop-place-preserved c =
     let at = ap (λ ps. entries_at ps place) (sym c.phis_of-phis.ensures) ∙ phi_at phis place phi (omega arith) c.index-phis-place.is in
     let known =
     c.known_comes_in-known.ensures
-    ∙ ap (λ k. known_comes_in c.module.result.now facts k operand) c.of-kind.ensures
-    ∙ ap (λ p. known_comes_in p facts (kind_of p phi.written) operand) c.module.ensures
+    ∙ ap (λ k. known_comes_in c.module-module.result.now facts k operand) c.of-kind.ensures
+    ∙ ap (λ p. known_comes_in p facts (kind_of p phi.written) operand) c.module-module.ensures
     ∙ ap (λ o. known_comes_in m facts (kind_of m phi.written) o) (c.operand_from-operand.ensures ∙ ap (λ entries. operand_from f from entries) at) in
     c.in_ok-push.ensures.ok
     ∙ ap (λ k. before ++ record { phi = phi.value; known = k } ∷ []) known
