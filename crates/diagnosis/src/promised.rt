@@ -43,7 +43,7 @@ fn not_nonnull(operand: &Operand, known: &Known) -> Unkept {
 }
 
 /// Which word of what is promised, if anything is, an operand is not known to keep.
-fn unkept_word(scene: &Scene, promise: Option<Promise>, operand: &Operand) -> Option<Unkept> {
+fn unkept_word(scene: &Scene, promise: &Option<Promise>, operand: &Operand) -> Option<Unkept> {
     let is_number = match promise {
         Some(promise) => promise.number,
         None => false,
@@ -51,12 +51,15 @@ fn unkept_word(scene: &Scene, promise: Option<Promise>, operand: &Operand) -> Op
     match (is_number, leads_outside(scene, operand)) {
         (true, false) => Some(Unkept::Inside),
         (false, true) => Some(Unkept::Outside),
-        _ => unkept_inside(scene.facts, promise?, operand),
+        _ => match promise {
+            Some(promise) => unkept_inside(scene.facts, promise, operand),
+            None => None,
+        },
     }
 }
 
 /// Which word of a promise an operand is not known to keep, which leads nowhere outside.
-fn unkept_inside(facts: &Facts, promise: Promise, operand: &Operand) -> Option<Unkept> {
+fn unkept_inside(facts: &Facts, promise: &Promise, operand: &Operand) -> Option<Unkept> {
     let known = known_of(facts, operand);
     if is_other(promise.layout, cell_layout(&known)) {
         return Some(Unkept::Layout);
@@ -96,7 +99,7 @@ fn broken_at(scene: &Scene, number: usize, operand: Operand) -> Option<Broken> {
     let functions = scene.context.module().functions.as_slice();
     let called = functions.get(callee.number() as usize)?;
     let parameter = called.parameters.get(number)?.value;
-    let promise = *scene.context.certs.section(callee)?.parameters.get(number)?;
+    let promise = scene.context.certs.section(callee)?.parameters.get(number)?;
     let word = unkept_word(scene, promise, &operand)?;
     Some(Broken {
         operand,
@@ -128,8 +131,8 @@ pub(crate) fn returned(scene: &Scene) -> Option<Operand> {
 
 /// Which word of what is promised of the result is not kept.
 fn unkept_result(scene: &Scene) -> Option<Unkept> {
-    let promise = scene.context.certs.section(scene.refusal.func)?.result;
-    unkept_word(scene, promise, &returned(scene)?)
+    let section = scene.context.certs.section(scene.refusal.func)?;
+    unkept_word(scene, &section.result, &returned(scene)?)
 }
 
 /// What keeps a promise of which this word is not kept. Where the word is not there, none can go.
