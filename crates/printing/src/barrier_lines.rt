@@ -134,12 +134,19 @@ fn put_lines(out: &mut Message, told: &Told, value: &Given, object: &Given, at: 
     put_call(out, told, value, object, at)
 }
 
+/// The reference in whose cell a place is, or null.
+fn object_of(told: &Told) -> Operand {
+    match told.holes.base {
+        Some(base) => base,
+        None => Operand::Constant(Constant::Null),
+    }
+}
+
 /// The object of a place.
 fn given_object(told: &Told) -> Given {
-    let base = told.holes.base;
     Given {
-        operand: base.unwrap_or(Operand::Constant(Constant::Null)),
-        has: type_of(told, base),
+        operand: object_of(told),
+        has: type_of(told, told.holes.base),
         is_place: false,
     }
 }

@@ -182,6 +182,13 @@ fn put_root_after(out: &mut Message, told: &Told, slot: ValueId, layout: Option<
     }
 }
 
+/// The line of the shapes that says to which layout a new slot refers.
+fn put_new_shape(out: &mut Message, told: &Told, unheld: &Unheld) {
+    put_shape_words(out, told);
+    put_slot_name(told.texts.pen.alloc, out, unheld);
+    put_shape_layout(out, told, unheld.layout)
+}
+
 /// The lines that make a root slot for a reference.
 fn put_new_root(out: &mut Message, told: &Told, value: ValueId, layout: Option<LayoutId>) {
     let alloc = told.texts.pen.alloc;
@@ -196,9 +203,7 @@ fn put_new_root(out: &mut Message, told: &Told, value: ValueId, layout: Option<L
     put_new_root_lines(alloc, out, &unheld);
     put_wanted_declare(out, of_module, &Runtime::GcRoot);
     if is_opaque_text(of_module) {
-        put_shape_words(out, told);
-        put_slot_name(alloc, out, &unheld);
-        put_shape_layout(out, told, layout)
+        put_new_shape(out, told, &unheld)
     }
 }
 
