@@ -3,5 +3,6 @@ mod EntryFactsLists
 mod Undecided
 mod RecordedEntries
 mod Operands
+mod Parameters
 mod PhiSteps
 mod Refused

@@ -1,2 +1,3 @@
 pub mod AtEnd
 pub mod Followed
+pub mod Parameters
