@@ -343,14 +343,28 @@ fn mend_word_type(found: &mut Draft, told: &Told, cell: Option<Operand>) {
 
 /// What mends K2.
 fn mend_type(found: &mut Draft, told: &Told, wrong: Wrong) {
-    match (wrong.mistyped, wrong.operand) {
-        (Mistyped::Layout, _) => found.mend(told, Mending::OtherNumber),
-        (Mistyped::Place, _) => mend_word_type(found, told, told.holes.it),
-        (Mistyped::Stored, _) => mend_word_type(found, told, told.holes.place),
-        (Mistyped::SlotType, Some(slot)) => found.mend(told, Mending::SlotType(slot)),
-        (Mistyped::Rooted, Some(Operand::Local(slot))) => found.mend(told, Mending::Root(slot)),
-        (Mistyped::Object, _) => mend_object(found, told),
+    match wrong.mistyped {
+        Mistyped::Layout => found.mend(told, Mending::OtherNumber),
+        Mistyped::Place => mend_word_type(found, told, told.holes.it),
+        Mistyped::Stored => mend_word_type(found, told, told.holes.place),
+        Mistyped::SlotType => mend_slot_type(found, told, wrong.operand),
+        Mistyped::Rooted => mend_root(found, told, wrong.operand),
+        Mistyped::Object => mend_object(found, told),
         _ => found.mend(told, Mending::OfCase),
+    }
+}
+
+fn mend_slot_type(found: &mut Draft, told: &Told, slot: Option<Operand>) {
+    match slot {
+        Some(slot) => found.mend(told, Mending::SlotType(slot)),
+        None => found.mend(told, Mending::OfCase),
+    }
+}
+
+fn mend_root(found: &mut Draft, told: &Told, slot: Option<Operand>) {
+    match value_in(slot) {
+        Some(slot) => found.mend(told, Mending::Root(slot)),
+        None => found.mend(told, Mending::OfCase),
     }
 }
 

@@ -7,7 +7,7 @@ use crate::null_tests::shows_nonnull;
 use crate::scene::{Scene, Spot};
 use crate::told::Told;
 use certs::Fact;
-use facts::{Class, Known};
+use facts::{Class, ClassId, Facts, Known};
 use ir_ast::{BlockId, ValueId};
 use std::alloc::AllocError;
 
@@ -35,6 +35,14 @@ fn missing(
     Ok(found)
 }
 
+fn class_unless_stale(facts: &Facts, class: ClassId, stale: bool) -> Class {
+    if stale {
+        Class::lost()
+    } else {
+        facts.class(class)
+    }
+}
+
 /// What is known of the class of a reference on an edge. Of one that is stale there nothing is.
 fn class_on_edge(
     scene: &Scene,
@@ -48,15 +56,8 @@ fn class_on_edge(
     })?;
     learn_branch(&mut facts, scene.context.function, from, to)?;
     let class = match facts.known(value) {
-        Known::Cell {
-            class,
-            stale: false,
-            ..
-        } => facts.class(class),
-        _ => Class {
-            nonnull: false,
-            fresh: false,
-        },
+        Known::Cell { class, stale, .. } => class_unless_stale(&facts, class, stale),
+        _ => Class::lost(),
     };
     drop(facts);
     Ok(class)

@@ -6,7 +6,7 @@ use crate::diagnosis::Draft;
 use crate::nulls::load_of;
 use crate::scene::{Scene, Spot};
 use crate::stale::class_of;
-use crate::told::{Told, value_in};
+use crate::told::{Told, local, value_in};
 use crate::ways::safepoint_before;
 use facts::{ClassId, Facts};
 use ir_ast::{Operand, ValueId};
@@ -117,12 +117,18 @@ fn unfresh_in_slot(
     Ok(None)
 }
 
+/// The local name from which a value is loaded.
+fn slot_loaded(scene: &Scene, value: ValueId) -> Option<ValueId> {
+    let (_, place) = load_of(scene, value)?;
+    local(place)
+}
+
 /// The call up to which the slot held a fresh cell from which a reference is loaded.
 fn unfresh_before_load(scene: &Scene, value: ValueId) -> Result<Option<Unfresh>, AllocError> {
-    match (spot_of(scene, value), load_of(scene, value)) {
-        (Some(spot), Some((_, Operand::Local(slot)))) => unfresh_in_slot(scene, &spot, slot),
-        _ => Ok(None),
-    }
+    let (Some(spot), Some(slot)) = (spot_of(scene, value), slot_loaded(scene, value)) else {
+        return Ok(None);
+    };
+    unfresh_in_slot(scene, &spot, slot)
 }
 
 /// Where the cell of a reference lost `fresh`.
