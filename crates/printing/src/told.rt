@@ -61,20 +61,22 @@ fn put_float(out: &mut Message, told: &Told, number: u64) {
     }
 }
 
+fn put_constant(out: &mut Message, told: &Told, constant: Constant) {
+    match constant {
+        Constant::Number(number) => out.put_number(number),
+        Constant::Float(number) => put_float(out, told, number),
+        Constant::Null => out.put("null"),
+        Constant::Truth(truth) => out.put(if truth { "true" } else { "false" }),
+    }
+}
+
 /// What an instruction reads, as it is named.
 pub(crate) fn put_operand(out: &mut Message, told: &Told, operand: Operand) {
     match operand {
-        Operand::Constant(Constant::Number(number)) => out.put_number(number),
-        Operand::Constant(Constant::Float(number)) => put_float(out, told, number),
-        Operand::Constant(Constant::Null) => out.put("null"),
-        Operand::Constant(Constant::Truth(true)) => out.put("true"),
-        Operand::Constant(Constant::Truth(false)) => out.put("false"),
+        Operand::Constant(constant) => put_constant(out, told, constant),
         Operand::Local(value) => put_value(out, told.function, value),
-        Operand::Global(symbol) | Operand::CastGlobal { global: symbol, .. } => put_symbol(
-            out,
-            told.module(),
-            symbol,
-        ),
+        Operand::Global(symbol) => put_symbol(out, told.module(), symbol),
+        Operand::CastGlobal { global, .. } => put_symbol(out, told.module(), global),
     }
 }
 
