@@ -9,6 +9,7 @@ many instructions, of which the last is refused. For each it prints the least pr
 gains. For use by hand.
 """
 import argparse
+import math
 import os
 import subprocess
 import sys
@@ -58,6 +59,18 @@ def commands(options, folder):
     yield f"check, {options.instructions} instructions", ["check", *long_function(folder, options.instructions), *workers]
 
 
+def in_turn(command, runs):
+    """The least processor time of a command without explanations and with them. One run of each follows the other, so that what else
+    runs on the machine meets both."""
+    plain = explained = math.inf
+    for _ in range(runs):
+        without, said = least([*command, "--explain", "never"], 1)
+        with_them, again = least([*command, "--explain", "always"], 1)
+        assert said == again and said.startswith(b"no"), said[:80]
+        plain, explained = min(plain, without), min(explained, with_them)
+    return plain, explained
+
+
 def main():
     parser = argparse.ArgumentParser(description=__doc__.split("\n")[0])
     parser.add_argument("dgc")
@@ -68,9 +81,7 @@ def main():
     options = parser.parse_args()
     with tempfile.TemporaryDirectory() as folder:
         for what, command in commands(options, folder):
-            plain, said = least([options.dgc, *command, "--explain", "never"], options.runs)
-            explained, again = least([options.dgc, *command, "--explain", "always"], options.runs)
-            assert said == again and said.startswith(b"no"), said[:80]
+            plain, explained = in_turn([options.dgc, *command], options.runs)
             print(f"{what}: plain {plain:.3f} s, explained {explained:.3f} s, {explained / plain:.2f} times")
 
 

@@ -146,6 +146,14 @@ def explained_entries(n):
     return function(body, section.removesuffix("%k i64\n") + "block %other\n", "i64 %k")
 
 
+@kind("names of a cell before an explained refusal", 65000, command="check, explained")
+def written_without_barrier(n):
+    """Names of one cell in a row, and a plain store into a field of it, by the last one."""
+    names = "  %v0 = bitcast %Node* %x to %Node*\n" + lines(n - 1, lambda i: f"  %v{i + 1} = bitcast %Node* %v{i} to %Node*")
+    field = f"  %p = getelementptr %Node, %Node* %v{n - 1}, i32 0, i32 1\n  store %Node* null, %Node** %p\n  ret void\n"
+    return function(names + field, "param %x nonnull\n", "%Node* %x", mark="may")
+
+
 @kind("claims of an explained edge", command="check, explained")
 def refused_claims(n):
     """Claims at a block, of which the last one is not known there."""
