@@ -6,8 +6,7 @@ ghost use Rattle.layout.specs.Functions.{with_shapes};
 
 use crate::made::{MakeFault, NotMade};
 use crate::maker;
-use ir_ast::{Module, Shapes, SymbolId};
-use items::Items;
+use ir_ast::{Module, Shapes, SymbolList};
 use module_check::{Accepted, Unseen, Witness, to_trust};
 use std::alloc::Global;
 use std::mem;
@@ -46,7 +45,7 @@ pub fn make_seen(
 }
 
 /// The module with these functions in place of those that it trusts, and those.
-fn with_trusted(of_module: Module, functions: Items<SymbolId>) -> (Module, Items<SymbolId>)
+fn with_trusted(of_module: Module, functions: SymbolList) -> (Module, SymbolList)
     ensures of_module { result.0 ≡ with_trusted of_module functions }
     ensures own { result.1 ≡ of_module.trusted.functions }
 {
@@ -67,7 +66,7 @@ pub fn make_with(alloc: Global, of_module: Module, shapes: Shapes) -> Result<Acc
 }
 
 /// The same, with the module that trusts these functions.
-fn given_back(unmade: NotMade, own: Items<SymbolId>) -> NotMade
+fn given_back(unmade: NotMade, own: SymbolList) -> NotMade
     ensures { result ≡ record unmade { of_module = with_trusted unmade.of_module own } }
 {
     let mut of_module = unmade.of_module;

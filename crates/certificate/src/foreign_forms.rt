@@ -6,8 +6,7 @@ ghost use Rattle.name_text.specs.Reader.{Reads};
 use crate::input::{Input, WordFault};
 use crate::mistake::Mistake;
 use crate::naming::{Naming, outside_of_word};
-use ir_ast::{Module, SymbolId};
-use items::Items;
+use ir_ast::{Module, SymbolId, SymbolList};
 use std::alloc::Global;
 
 /// The name of a function outside that is not listed so far.
@@ -67,11 +66,11 @@ pub fn foreign_names(
     alloc: Global,
     input: &mut Input<'_>,
     module: &Module,
-) -> Result<Items<SymbolId>, WordFault>
+) -> Result<SymbolList, WordFault>
     ensures { Reads ((form.foreign_names «module».now).read input.old) result input.new }
 {
     if !module.wide {
-        return Ok(Items::new(alloc));
+        return Ok(SymbolList::new(alloc));
     }
     foreign_lines(alloc, input, module)?;
     Ok(input.read.take_foreign(alloc))

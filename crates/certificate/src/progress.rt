@@ -10,7 +10,7 @@ ghost use Rattle.certs.specs.declared.section.Claim.TheVariants as a_line;
 use crate::draft::{RequiredValue, SectionDraft};
 use crate::shape_draft::ShapeDraft;
 use certs::{Claim, Fact, Mark, Promise, Section, has_layout, has_number};
-use ir_ast::{BlockId, FuncId, Function, LayoutNumber, Module, SymbolId, ValueId};
+use ir_ast::{BlockId, FuncId, Function, LayoutNumber, Module, SymbolId, SymbolList, ValueId};
 use items::Items;
 use pools::LayoutId;
 use std::alloc::{AllocError, Global};
@@ -31,7 +31,7 @@ pub struct Progress {
     sections: Vec<Option<Kept>>,
     draft: SectionDraft,
     shapes: ShapeDraft,
-    foreign: Items<SymbolId>,
+    foreign: SymbolList,
     numbers: Items<LayoutNumber>,
 }
 
@@ -54,7 +54,7 @@ impl Progress {
             sections,
             draft: SectionDraft::none(alloc),
             shapes,
-            foreign: Items::new(alloc),
+            foreign: SymbolList::new(alloc),
             numbers: Items::new(alloc),
         }
     }
@@ -130,10 +130,7 @@ impl Progress {
     pub fn lists_foreign(&self, symbol: SymbolId) -> bool
         ensures { result ≡ list_any (λ t. t == symbol) self.now.foreign }
     {
-        self.foreign
-            .as_slice()
-            .iter()
-            .any(|listed| *listed == symbol)
+        self.foreign.contains(symbol)
     }
 
     /// Lists a function outside.
@@ -147,11 +144,11 @@ impl Progress {
 
     /// Takes the functions outside out.
     #[tactic(auto, unfolding(crate::specs::Input::without_foreign))]
-    pub fn take_foreign(&mut self, alloc: Global) -> Items<SymbolId>
+    pub fn take_foreign(&mut self, alloc: Global) -> SymbolList
         ensures symbols { result ≡ self.old.foreign }
         ensures rest { self.new ≡ spec.without_foreign self.old }
     {
-        mem::replace(&mut self.foreign, Items::new(alloc))
+        mem::replace(&mut self.foreign, SymbolList::new(alloc))
     }
 
     /// Whether this layout has a number so far.

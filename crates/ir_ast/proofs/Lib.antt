@@ -5,3 +5,4 @@ mod TypedPointers
 mod HintsStay
 mod Chains
 mod KeptNames
+mod Marks

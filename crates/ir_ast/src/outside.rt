@@ -1,7 +1,7 @@
 ghost use Rattle.std.specs.Prelude.{◌≡◌};
 ghost use Rattle.ir_ast.specs.Outside.{none_outside};
 
-use crate::symbol_id::SymbolId;
+use crate::symbol_list::SymbolList;
 use items::Items;
 use pools::LayoutId;
 use std::alloc::Global;
@@ -18,7 +18,7 @@ pub struct LayoutNumber {
 #[derive(Drop)]
 pub struct Outside {
     /// The functions outside whose promise is trusted.
-    pub functions: Items<SymbolId>,
+    pub functions: SymbolList,
     /// The numbers by which dg_alloc means layouts. Where none is listed, a number means the struct at its place in the text.
     pub numbers: Items<LayoutNumber>,
 }
@@ -29,7 +29,7 @@ impl Outside {
         ensures { result ≡ none_outside }
     {
         Outside {
-            functions: Items::new(alloc),
+            functions: SymbolList::new(alloc),
             numbers: Items::new(alloc),
         }
     }

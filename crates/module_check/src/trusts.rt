@@ -2,7 +2,7 @@
 ghost use Rattle.std.specs.Prelude.{◌≡◌, IfOk};
 ghost use Rattle.module_check.specs.Trusts as spec;
 
-use ir_ast::{Block, Declare, Function, Instr, Module, Op, SymbolId};
+use ir_ast::{Block, Declare, Function, Instr, Module, Op, SymbolId, SymbolList};
 use items::Items;
 use std::alloc::{AllocError, Global};
 use types::is_outside;
@@ -72,10 +72,10 @@ fn outside_marked(
     of_module: &Module,
     called: &[bool],
     declares: &[Declare],
-) -> Result<Items<SymbolId>, AllocError>
+) -> Result<SymbolList, AllocError>
     ensures { IfOk result (λ symbols. symbols ≡ spec.outside_marked of_module.now called.now declares.now) }
 {
-    let mut symbols = Items::new(alloc);
+    let mut symbols = SymbolList::new(alloc);
     for declare in declares {
         if is_marked_outside(of_module, called, declare.symbol) {
             symbols.push(declare.symbol)?;
@@ -86,7 +86,7 @@ fn outside_marked(
 
 /// The functions outside that the functions of a module call, in the order of their declares. It goes over the module once.
 #[tactic(auto, using(crate::proofs::Marked::outside_same))]
-pub fn outside_called(alloc: Global, of_module: &Module) -> Result<Items<SymbolId>, AllocError>
+pub fn outside_called(alloc: Global, of_module: &Module) -> Result<SymbolList, AllocError>
     ensures { IfOk result (λ symbols. symbols ≡ spec.outside_called of_module.now) }
 {
     let called = marked(alloc, of_module)?;
@@ -101,12 +101,12 @@ pub fn outside_called(alloc: Global, of_module: &Module) -> Result<Items<SymbolI
 }
 
 /// The same where the wide forms may stand, and otherwise nothing: what the certificates of a module have to trust.
-pub fn to_trust(alloc: Global, of_module: &Module) -> Result<Items<SymbolId>, AllocError>
+pub fn to_trust(alloc: Global, of_module: &Module) -> Result<SymbolList, AllocError>
     ensures { IfOk result (λ symbols. symbols ≡ spec.to_trust of_module.now) }
 {
     if of_module.wide {
         outside_called(alloc, of_module)
     } else {
-        Ok(Items::new(alloc))
+        Ok(SymbolList::new(alloc))
     }
 }

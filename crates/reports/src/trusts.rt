@@ -92,7 +92,7 @@ pub fn accepted_again<W: Write>(alloc: Global, out: &mut W, of_module: &Module) 
     ensures { IfOk result (λ status. IsTold (W.contents out.old) (W.contents out.new) status (spec.yes_again of_module.now)) }
 {
     let trusts = to_trust(alloc, of_module)?;
-    let count = trusts.len();
+    let count = trusts.as_slice().len();
     drop(trusts);
     write!(out, "yes {}", of_module.functions.len())?;
     write_trusts_count(out, count)?;

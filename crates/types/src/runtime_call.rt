@@ -38,10 +38,5 @@ pub fn is_outside(module: &Module, symbol: SymbolId) -> bool
 pub fn is_trusted(module: &Module, symbol: SymbolId) -> bool
     ensures { result ≡ list_any (λ s. s == symbol) «module».now.trusted.functions }
 {
-    module
-        .trusted
-        .functions
-        .as_slice()
-        .iter()
-        .any(|trusted| *trusted == symbol)
+    module.trusted.functions.contains(symbol)
 }
