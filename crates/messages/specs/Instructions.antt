@@ -1,10 +1,12 @@
 -- Where the instructions of a function begin, as the reader reads them.
-use Rattle.std.specs.Prelude.{◌≡◌, ℕ, ◌+◌, Bool, true, false, ◌||◌, List, length, map, drop, slice_get, Some, None}
+use Rattle.std.specs.Prelude.{◌≡◌, ℕ, ◌+◌, Bool, true, false, ◌||◌, if◌then◌else◌, List, [], ◌∷◌, length, drop, slice_get, Option, Some, None, option_and_then}
 use Rattle.grammar.specs.Grammar.{◌>>◌}
 use Rattle.ir_tokens.specs.Bytes.{Text}
+use Rattle.ir_tokens.specs.Names.{name_of}
 use Rattle.ir_tokens.specs.declared.token.Kind.{Kind}
 use Rattle.ir_tokens.specs.declared.token.Kind.TheVariants as k
 use Rattle.ir_tokens.specs.declared.token.Token.{Token}
+use Rattle.ir_ast.specs.Names.{place_of}
 use Rattle.ir_ast.specs.declared.items_of_module.SymbolSort.{SymbolSort}
 use Rattle.ir_ast.specs.declared.items_of_module.SymbolSort.TheVariants as symbol
 use Rattle.ir_ast.specs.declared.module.Module.{Module}
@@ -12,6 +14,7 @@ use Rattle.ir_forms.specs.declared.table.Table.{Table}
 use Rattle.ir_forms.specs.declared.input.Input.{Input}
 use Rattle.ir_forms.specs.Ends.{ends_block}
 use Rattle.ir_forms.specs.Input.{Form, start_of}
+use Rattle.ir_forms.specs.Table.{empty, mentioned}
 use Rattle.ir_text.specs.Anew.{named_head}
 use Rattle.ir_places.specs.declared.places.BlockPlaces.{BlockPlaces}
 use Rattle.ir_places.specs.Places.{body_places, place_in}
@@ -30,24 +33,48 @@ begins_inner _ = false
 abbrev pub begins : Kind → Bool
 begins kind = begins_inner kind || ends_block kind
 
--- what a global name of the module stands for before a function of it is read alone: what is only declared, and no more
-abbrev pub sort_before : SymbolSort → SymbolSort
-sort_before symbol.Unknown = symbol.Unknown
-sort_before (symbol.Global g) = symbol.Unknown
-sort_before (symbol.Declared d) = symbol.Declared d
-sort_before (symbol.Defined f) = symbol.Unknown
+-- what a global name of the module stands for before a function of it is read alone, if it stands for anything: it does where it is only declared
+abbrev pub sort_before : SymbolSort → Option SymbolSort
+sort_before symbol.Unknown = None
+sort_before (symbol.Global g) = None
+sort_before (symbol.Declared d) = Some (symbol.Declared d)
+sort_before (symbol.Defined f) = None
 
--- the same of each name
-abbrev pub sorts_before : List SymbolSort → List SymbolSort
-sorts_before sorts = map sort_before sorts
+-- the same of a name, which the module may not have
+abbrev pub sort_of_name : Module → (name : Text) → Option SymbolSort
+sort_of_name m name = option_and_then sort_before (option_and_then (slice_get m.sorts) (place_of name m.symbols))
 
--- the global names of the module before a function of it is read alone
-abbrev pub names_before : Module → Table SymbolSort
-names_before m = record { names = m.symbols; sorts = sorts_before m.sorts }
+-- the table with this name, if it stands for something
+abbrev pub with_sort : (name : Text) → Option SymbolSort → Table SymbolSort → Table SymbolSort
+with_sort name None t = t
+with_sort name (Some sort) t = mentioned name sort t
+
+-- a token of this kind is a global name
+abbrev pub is_global_name : Kind → Bool
+is_global_name k.GlobalName = true
+is_global_name _ = false
+
+-- a function begins with a token of this kind
+abbrev pub is_define : Kind → Bool
+is_define k.Define = true
+is_define _ = false
+
+-- the table with the name that this token spells, if it is a global name that stands for something
+abbrev pub with_token : Module → (text : Text) → Token → Table SymbolSort → Table SymbolSort
+with_token m text x t = if is_global_name x.kind then with_sort (name_of text x) (sort_of_name m (name_of text x)) t else t
+
+-- the table with the names of these tokens, up to where the next function begins
+abbrev pub with_tokens : Module → (text : Text) → List Token → Table SymbolSort → Table SymbolSort
+with_tokens m text [] t = t
+with_tokens m text (x ∷ xs) t = if is_define x.kind then t else with_tokens m text xs (with_token m text x t)
+
+-- the global names that stand for something before the function with which these tokens begin is read alone, as far as they stand in it
+abbrev pub names_before : Module → (text : Text) → List Token → Table SymbolSort
+names_before m text tokens = with_tokens m text (drop 1 tokens) empty
 
 -- before these tokens of a function of the module are read alone
 abbrev pub start_in : Module → (text : Text) → List Token → Input
-start_in m text tokens = record (start_of (record { text = text; rest = tokens; bad = None; wide = m.wide })) { symbols = names_before m; wide = m.wide }
+start_in m text tokens = record (start_of (record { text = text; rest = tokens; bad = None; wide = m.wide })) { symbols = names_before m text tokens; wide = m.wide }
 
 -- the function of this name, with how many tokens are left before each of its instructions
 unfoldable pub function_places : (name : Text) → Form (List BlockPlaces)

@@ -1,17 +1,16 @@
 //! Where the instructions of a function begin, as the reader reads them.
-ghost use Rattle.std.specs.Prelude.{◌≡◌, ◌+◌, ◌≤◌, true, length, drop, slice_get, Some, IfOk, IfSome};
+ghost use Rattle.std.specs.Prelude.{◌≡◌, ◌+◌, ◌≤◌, true, length, drop, slice_get, Some, IfOk, IfSome, OnOk};
 ghost use Rattle.ir_forms.specs.Input.{Reads};
 ghost use Rattle.ir_text.specs.Anew.{named_head};
 ghost use Rattle.messages.specs.Instructions as spec;
 ghost use Rattle.messages.specs.Instructions.{ArePlacesOf, BeginsAt, IsFirst};
 
-use crate::guesses::{Start, guess_start};
-use copies::copy_names;
+use crate::guesses::guess_start;
 use ir_ast::{FuncId, Module, SymbolSort};
 use ir_forms::{Cursor, Fault, Input, Table};
 use ir_places::{BlockPlaces, body_places};
 use ir_text::{FunctionHead, defined_result, head_after};
-use ir_tokens::{Kind, TEXT_LIMIT, Token};
+use ir_tokens::{Kind, TEXT_LIMIT, Token, plain_name, unescaped};
 use items::Items;
 use std::alloc::{AllocError, Global};
 
@@ -72,34 +71,107 @@ fn function_places(
     body_places(alloc, input)
 }
 
-/// What a global name of a module stands for before a function of it is read alone.
-fn sort_before(sort: SymbolSort) -> SymbolSort
+/// What a global name of a module stands for before a function of it is read alone, if it stands for anything: it does where it is only
+/// declared.
+fn sort_before(sort: SymbolSort) -> Option<SymbolSort>
     ensures { result ≡ spec.sort_before sort }
 {
     match sort {
-        SymbolSort::Declared(_) => sort,
-        _ => SymbolSort::Unknown,
+        SymbolSort::Declared(_) => Some(sort),
+        _ => None,
     }
 }
 
-/// The same of each name.
-fn sorts_before(alloc: Global, sorts: &[SymbolSort]) -> Result<Items<SymbolSort>, AllocError>
-    ensures { IfOk result (λ before. before ≡ spec.sorts_before sorts.now) }
+/// The same of a name, which the module may not have.
+fn sort_of_name(of_module: &Module, name: &[u8]) -> Option<SymbolSort>
+    ensures { result ≡ spec.sort_of_name of_module.now name.now }
 {
-    let mut before = Items::new(alloc);
-    for sort in sorts {
-        before.push(sort_before(*sort))?;
+    let number = of_module.symbols.find(name)?;
+    let sort = of_module.sorts.get(number)?;
+    sort_before(*sort)
+}
+
+/// Puts a name into a table, if it stands for something.
+fn put_name(
+    alloc: Global,
+    before: &mut Table<SymbolSort>,
+    of_module: &Module,
+    name: &[u8],
+) -> Result<(), AllocError>
+    ensures { OnOk result (before.new ≡ spec.with_sort name.now (spec.sort_of_name of_module.now name.now) before.old) }
+{
+    if let Some(sort) = sort_of_name(of_module, name) {
+        before.mention(alloc, name, sort)?;
+    }
+    Ok(())
+}
+
+/// Whether a token of this kind is a global name.
+fn is_global_name(kind: Kind) -> bool
+    ensures { result ≡ spec.is_global_name kind }
+{
+    matches!(kind, Kind::GlobalName)
+}
+
+/// Whether a function begins with a token of this kind.
+fn is_define(kind: Kind) -> bool
+    ensures { result ≡ spec.is_define kind }
+{
+    matches!(kind, Kind::Define)
+}
+
+/// Puts the name that a token spells into a table, if it is a global name that stands for something.
+fn put_token(
+    alloc: Global,
+    before: &mut Table<SymbolSort>,
+    of_module: &Module,
+    text: &[u8],
+    token: Token,
+) -> Result<(), AllocError>
+    ensures { OnOk result (before.new ≡ spec.with_token of_module.now text.now token before.old) }
+{
+    if !is_global_name(token.kind) {
+        return Ok(());
+    }
+    match plain_name(text, token) {
+        Some(name) => put_name(alloc, before, of_module, name),
+        None => {
+            let name = unescaped(alloc, text, token)?;
+            put_name(alloc, before, of_module, name.as_slice())
+        }
+    }
+}
+
+/// The tokens after the first one.
+fn after_first(tokens: &[Token]) -> &[Token]
+    ensures { result.now ≡ drop 1 tokens.now }
+{
+    match tokens {
+        [_, rest @ ..] => rest,
+        [] => tokens,
+    }
+}
+
+/// The global names that stand for something before the function with which these tokens begin is read alone, as far as they stand in it:
+/// which are only declared is known, and no more. So it takes time in the length of the function, and none in that of the module.
+fn names_before(
+    alloc: Global,
+    of_module: &Module,
+    text: &[u8],
+    tokens: &[Token],
+) -> Result<Table<SymbolSort>, AllocError>
+    ensures { IfOk result (λ before. before ≡ spec.names_before of_module.now text.now tokens.now) }
+{
+    let mut before = Table::new(alloc, of_module.symbols.key());
+    let mut left = after_first(tokens);
+    while let [token, rest @ ..] = left {
+        if is_define(token.kind) {
+            return Ok(before);
+        }
+        put_token(alloc, &mut before, of_module, text, *token)?;
+        left = rest;
     }
     Ok(before)
-}
-
-/// The global names of a module before a function of it is read alone: which are only declared is known, and no more.
-fn names_before(alloc: Global, of_module: &Module) -> Result<Table<SymbolSort>, AllocError>
-    ensures { IfOk result (λ before. before ≡ spec.names_before of_module.now) }
-{
-    let names = copy_names(alloc, &of_module.symbols)?;
-    let sorts = sorts_before(alloc, of_module.sorts.as_slice())?;
-    Ok(Table { names, sorts })
 }
 
 /// Where the instructions begin of the function of this name with which these tokens begin. It is told where the reader reads it so, in
@@ -116,7 +188,7 @@ pub fn places_from(
     if text.len() > TEXT_LIMIT {
         return Ok(None);
     }
-    let symbols = names_before(alloc, of_module)?;
+    let symbols = names_before(alloc, of_module, text, tokens)?;
     let cursor = Cursor::new(text, tokens, None, of_module.wide);
     let mut input = Input::new(alloc, cursor, of_module.symbols.key());
     input.symbols = symbols;
@@ -142,10 +214,10 @@ pub fn first_token(
 ) -> Result<Option<Token>, AllocError>
     ensures { IfOk result (λ found. IfSome found (λ token. BeginsAt of_module.now text.now tokens.now name.now numbers.block numbers.place token)) }
 {
-    let Some(start) = guess_start(tokens, numbers.function, Start::FIRST) else {
+    let Some(start) = guess_start(tokens, numbers.function) else {
         return Ok(None);
     };
-    let Some(within) = tokens.get(start.token..) else {
+    let Some(within) = tokens.get(start..) else {
         return Ok(None);
     };
     let Some(places) = places_from(alloc, text, within, name, of_module)? else {

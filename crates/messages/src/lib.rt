@@ -25,7 +25,7 @@ mod written_types;
 pub use cert_lines::{CertLine, cert_place};
 pub use declares::{declare_change, is_declared, put_declare_of, put_wanted_declare};
 pub use excerpts::{put_line_of_token, put_position_line, put_token_line};
-pub use guesses::{Start, guess_start};
+pub use guesses::Starts;
 pub use instructions::{Numbers, Places, first_token, places_from};
 pub use line_starts::LineStarts;
 pub use lines::{Line, line_at, line_numbered};

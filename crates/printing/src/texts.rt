@@ -5,7 +5,7 @@ use diagnosis::Spot;
 use ir_ast::{FuncId, Function};
 use ir_tokens::{Lexed, TEXT_LIMIT, Token, read_tokens};
 use layout::Program;
-use messages::{LineStarts, NamedText, Pen};
+use messages::{LineStarts, NamedText, Pen, Starts};
 use std::alloc::{AllocError, Global};
 
 /// The text of a module that is read for its tokens and its lines.
@@ -13,6 +13,7 @@ use std::alloc::{AllocError, Global};
 pub struct ReadText<'a> {
     named: NamedText<'a>,
     lexed: Lexed,
+    starts: Starts,
     lines: LineStarts,
 }
 
@@ -22,9 +23,12 @@ impl<'a> ReadText<'a> {
         if named.text.len() > TEXT_LIMIT {
             return Ok(None);
         }
+        let lexed = read_tokens(alloc, named.text)?;
+        let starts = Starts::of(alloc, lexed.tokens.as_slice())?;
         Ok(Some(ReadText {
             named,
-            lexed: read_tokens(alloc, named.text)?,
+            lexed,
+            starts,
             lines: LineStarts::of(alloc, named.text)?,
         }))
     }
@@ -34,17 +38,19 @@ impl<'a> ReadText<'a> {
             path: self.named.path,
             text: self.named.text,
             tokens: self.lexed.tokens.as_slice(),
+            starts: &self.starts,
             lines: &self.lines,
         }
     }
 }
 
-/// The text of a module, with its tokens, its lines and the path of its file.
+/// The text of a module, with its tokens, where its functions seem to begin, its lines and the path of its file.
 #[derive(Clone, Copy)]
 pub(crate) struct Source<'a> {
     pub(crate) path: &'a str,
     pub(crate) text: &'a [u8],
     pub(crate) tokens: &'a [Token],
+    pub(crate) starts: &'a Starts,
     pub(crate) lines: &'a LineStarts,
 }
 

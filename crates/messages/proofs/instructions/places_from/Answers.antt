@@ -19,7 +19,7 @@ returns c =
         after = c.function_places.new.input;
         read =
             form.sound (start_in m text c.args.tokens.now) _ c.function_places.new.input
-            (ap (λ (i : Input). form.read (record i { symbols = names_before m; wide = wide })) (sym start)
+            (ap (λ (i : Input). form.read (record i { symbols = names_before m text c.args.tokens.now; wide = wide })) (sym start)
             ∙ ap (λ (t : Table SymbolSort). form.read (record c.new-input.result { symbols = t; wide = wide })) (sym c.in_ok-symbols.ensures)
             ∙ w.in-Ok.ensures);
       })
