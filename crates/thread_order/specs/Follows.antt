@@ -43,6 +43,11 @@ may_follow v Entering (ReadPostedAgain posted) = true
 may_follow v Leaving (StoreStage next roots) = (next == done) && is_none roots
 may_follow v _ _ = false
 
+-- the step stores the stage that is to be answered
+abbrev pub is_answer : At → Step → Bool
+is_answer (Answering next) (StoreStage to roots) = to == next
+is_answer _ _ = false
+
 -- ---- after the step
 
 abbrev pub with_at : Standing → At → Standing

@@ -5,8 +5,8 @@ ghost use Rattle.colours.specs.Mutator.{stage_of, phase_of, MayFollow};
 ghost use Rattle.record_text.specs.Records.{step_with};
 ghost use Rattle.thread_order.specs.Standings.{Standing};
 ghost use Rattle.thread_order.specs.Follows as follows;
-ghost use Rattle.thread_order.specs.Follows.{may_follow, stands_after, MayLose};
-ghost use Rattle.thread_order.specs.Orders.{Stands, Tells, GoesOn};
+ghost use Rattle.thread_order.specs.Follows.{is_answer, may_follow, stands_after, MayLose};
+ghost use Rattle.thread_order.specs.Orders.{Stands, Tells, TellsAsked, GoesOn};
 
 use crate::at::At;
 use crate::marks::are_marked;
@@ -70,10 +70,10 @@ impl<'a> ThreadOrder<'a> {
 
     /// Whether the step stores the stage that is to be answered.
     pub fn is_to_answer(&self, step: ThreadStep) -> bool
-        ensures { (next : ℕ) → IsTrue result → step ≡ ThreadStep.StoreStage next → self.now.at ≡ At.Answering next }
+        ensures asked { (roots : List ℕ) → TellsAsked self.now (step_with roots step) result }
     {
-        match (self.at, step) {
-            (At::Answering(posted), ThreadStep::StoreStage(next)) => posted == next,
+        match self.at {
+            At::Answering(next) => stores(step, next),
             _ => false,
         }
     }
@@ -325,6 +325,13 @@ fn first_place(is_late: bool) -> At
     ensures { result ≡ (if is_late then At.Absent else At.Ready) }
 {
     if is_late { At::Absent } else { At::Ready }
+}
+
+/// Whether the step stores this stage.
+fn stores(step: ThreadStep, next: u64) -> bool
+    ensures { (roots : List ℕ) → result ≡ is_answer (At.Answering next) (step_with roots step) }
+{
+    matches!(step, ThreadStep::StoreStage(to) if to == next)
 }
 
 /// The old value is to be marked.
