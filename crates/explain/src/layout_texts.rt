@@ -71,7 +71,9 @@ See also: Y1 (structs that hold themselves), docs/TEXT.md
 pub(crate) const Y3: &str = "\
 Y3  Each word of a struct is an integer, or points to a named struct.
 
-A word of type `ptr` refers to what the shapes name (C6).
+A word of type `ptr` refers to what the shapes name (C6). With `--forms wide` a
+typed pointer to something else is a word of 64 bits, which no instruction reads
+or writes.
 
 Why: The collector follows each reference to a cell of one layout. A pointer to
 an integer, or into the middle of a cell, tells it none.

@@ -1,5 +1,5 @@
 -- Layouts, sizes and the words of globals where the table of types has grown. Functions are no part of any of them.
-use Rattle.std.proofs.Common.{◌≡◌, ℕ, suc, if◌then◌else◌, true, false, List, [], ◌∷◌, map, Option, Some, None, is_none, unwrap_or, refl, ap, sym, ◌∙◌, subst}
+use Rattle.std.proofs.Common.{◌≡◌, ℕ, suc, if◌then◌else◌, Bool, true, false, List, [], ◌∷◌, map, Option, Some, None, is_none, unwrap_or, refl, ap, ap₂, sym, ◌∙◌, subst}
 use Rattle.std.specs.Prelude.{slice_get}
 use Rattle.ir_ast.specs.declared.function.Function.{Function}
 use Rattle.ir_ast.specs.declared.items_of_module.Global.{Global}
@@ -16,7 +16,7 @@ use Rattle.layout.specs.Functions.{with_functions}
 use Rattle.layout.specs.Globals.{word_of_global, kind_of_global, globals_of}
 use Rattle.layout.specs.Grown.{TablesGrow}
 use Rattle.layout.specs.Layouts.{IsLayout, AreLayoutsOf, AreLayouts, wants_shapes, IsSize, AreSizes}
-use Rattle.layout.specs.Words.{Scalars, is_scalar, reference_to, word_of_type, shaped_word, shapes_of, AreWords}
+use Rattle.layout.specs.Words.{Scalars, is_scalar, reference_to, pointer_word, word_of_type, shaped_word, shapes_of, AreWords}
 
 -- ---- scalars and words
 
@@ -54,10 +54,34 @@ module _ (m n : Module) (grow : TablesGrow m n) where
   layout_by part layout (Some (Named name)) at h = rw (grow.types part (Named name) at) (grow.names part name at ∙ h)
   layout_by part layout _ at h = absurd cc
 
-  reference_stays : (part : ℕ) (word : WordKind) (layout : Option ℕ) → layout_of_struct m (slice_get m.types part) ≡ layout → reference_to layout ≡ Some word
-      → reference_to (layout_of_struct n (slice_get n.types part)) ≡ Some word
-  reference_stays part word None is h = absurd cc
-  reference_stays part word (Some layout) is h = ap reference_to (layout_by part layout (slice_get m.types part) refl is) ∙ h
+  -- a type that is no name of a struct is none in the other module
+  nowhere_stays : (part : ℕ) (type : IrType) → slice_get m.types part ≡ Some type → layout_of_struct m (Some type) ≡ None → layout_of_struct n (slice_get n.types part) ≡ None
+  nowhere_stays part (Named name) at h = rw (grow.types part (Named name) at) (grow.names part name at ∙ h)
+  nowhere_stays part Void at h = rw (grow.types part Void at) refl
+  nowhere_stays part (Integer bits) at h = rw (grow.types part (Integer bits) at) refl
+  nowhere_stays part Float at h = rw (grow.types part Float at) refl
+  nowhere_stays part Double at h = rw (grow.types part Double at) refl
+  nowhere_stays part (Pointer inner) at h = rw (grow.types part (Pointer inner) at) refl
+  nowhere_stays part Opaque at h = rw (grow.types part Opaque at) refl
+  nowhere_stays part (Array length inner) at h = rw (grow.types part (Array length inner) at) refl
+  nowhere_stays part EmptyStruct at h = rw (grow.types part EmptyStruct at) refl
+  nowhere_stays part (Struct first rest) at h = rw (grow.types part (Struct first rest) at) refl
+
+  -- what a pointer to this type holds
+  pointer_by : (part : ℕ) (word : WordKind) (type : Option IrType) (layout : Option ℕ) → slice_get m.types part ≡ type → layout_of_struct m type ≡ layout → pointer_word m.wide type layout ≡ Some word
+      → pointer_word n.wide (slice_get n.types part) (layout_of_struct n (slice_get n.types part)) ≡ Some word
+  pointer_by part word type (Some layout) at is h = ap (pointer_word n.wide (slice_get n.types part)) (layout_by part layout type at is) ∙ h
+  pointer_by part word None None at is h = absurd (not_there m.wide h) where
+    not_there : (wide : Bool) → pointer_word wide None None ≡ Some word → ⊥
+    not_there true e = cc
+    not_there false e = cc
+  pointer_by part word (Some type) None at is h =
+      ap₂ (λ wide layout. pointer_word wide (slice_get n.types part) layout) grow.wide (nowhere_stays part type at is)
+      ∙ ap (λ found. pointer_word m.wide found None) (grow.types part type at) ∙ h
+
+  pointer_stays : (part : ℕ) (word : WordKind) → pointer_word m.wide (slice_get m.types part) (layout_of_struct m (slice_get m.types part)) ≡ Some word
+      → pointer_word n.wide (slice_get n.types part) (layout_of_struct n (slice_get n.types part)) ≡ Some word
+  pointer_stays part word h = pointer_by part word (slice_get m.types part) (layout_of_struct m (slice_get m.types part)) refl refl h
 
   -- a type under which a word is there keeps its kind: `ptr` stays `ptr`, and another type that is a word no `ptr`
   shaped_by : (shape : Option ℕ) (field : ℕ) (word : WordKind) (type : Option IrType) → slice_get m.types field ≡ type → (if is_opaque_type type then reference_to shape else word_of_type m type) ≡ Some word → shaped_word n shape field ≡ Some word
@@ -65,7 +89,7 @@ module _ (m n : Module) (grow : TablesGrow m n) where
   shaped_by shape field word (Some (Integer bits)) at h = rw (grow.types field (Integer bits) at) h
   shaped_by shape field word (Some Float) at h = rw (grow.types field Float at) h
   shaped_by shape field word (Some Double) at h = rw (grow.types field Double at) h
-  shaped_by shape field word (Some (Pointer part)) at h = rw (grow.types field (Pointer part) at) (reference_stays part word (layout_of_struct m (slice_get m.types part)) refl h)
+  shaped_by shape field word (Some (Pointer part)) at h = rw (grow.types field (Pointer part) at) (pointer_stays part word h)
   shaped_by shape field word _ at h = absurd cc
 
   shaped_stays : (shape : Option ℕ) (field : ℕ) (word : WordKind) → shaped_word m shape field ≡ Some word → shaped_word n shape field ≡ Some word
@@ -99,10 +123,10 @@ module _ (m n : Module) (grow : TablesGrow m n) where
 -- ---- other functions
 
 functions_only : (m : Module) (fs : List Function) → TablesGrow m (with_functions m fs)
-functions_only m fs = record { types = λ written type at. at; names = λ written name at. refl; structs = refl; shapes = refl }
+functions_only m fs = record { types = λ written type at. at; names = λ written name at. refl; structs = refl; shapes = refl; wide = refl }
 
 functions_back : (m : Module) (fs : List Function) → TablesGrow (with_functions m fs) m
-functions_back m fs = record { types = λ written type at. at; names = λ written name at. refl; structs = refl; shapes = refl }
+functions_back m fs = record { types = λ written type at. at; names = λ written name at. refl; structs = refl; shapes = refl; wide = refl }
 
 -- layouts depend on no function
 pub layouts_with : (m : Module) (fs : List Function) (layouts : List (List WordKind)) → AreLayouts m layouts → AreLayouts (with_functions m fs) layouts

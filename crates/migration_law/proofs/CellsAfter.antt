@@ -1,5 +1,5 @@
 -- The layouts and the globals of a module are those of its opaque text, with the shapes that its types say.
-use Rattle.std.proofs.Common.{◌≡◌, inl, inr, ◌≤◌, ◌+◌, ℕ, zero, suc, true, false, List, [], ◌∷◌, ◌++◌, map, length, slice_get, unwrap_or, is_none, if◌then◌else◌, Option, None, Some, option_map, refl, sym, ap, ◌∙◌, subst, arith}
+use Rattle.std.proofs.Common.{◌≡◌, inl, inr, ◌≤◌, ◌+◌, ℕ, zero, suc, Bool, true, false, List, [], ◌∷◌, ◌++◌, map, length, slice_get, unwrap_or, is_none, is_some, if◌then◌else◌, Option, None, Some, option_map, refl, sym, ap, ◌∙◌, subst, arith}
 use Rattle.std.specs.List.{list_any}
 use Rattle.std.proofs.lemmas.List.{map-append}
 use Rattle.std.proofs.lemmas.Option.{slice_get-map, slice_get_within}
@@ -25,7 +25,7 @@ use Rattle.layout.specs.Functions.{with_shapes}
 use Rattle.layout.specs.Globals.{AreGlobals, globals_of, word_of_global}
 use Rattle.layout.specs.Layouts.{AreLayouts, AreLayoutsOf, IsLayout}
 use Rattle.layout.specs.Rings.{one_list}
-use Rattle.layout.specs.Words.{AreWords, Scalars, copies, is_scalar, reference_to, shaped_word, shapes_of, word_of_type}
+use Rattle.layout.specs.Words.{AreWords, Scalars, copies, is_scalar, pointer_word, reference_to, shaped_word, shapes_of, word_of_type}
 use Rattle.certs.specs.Families.{is_opaque_text}
 use Rattle.certificate.specs.Named.{HasGlobals, HasStructs}
 use Rattle.certificate.specs.TypedShapes.{typed_global, typed_held, typed_row}
@@ -66,27 +66,39 @@ module _ (m : Module) (given : Shapes) (typed : is_opaque_text m ≡ false) wher
 
   -- ---- words
 
+  -- a pointer to a named struct is a reference
+  pointer_by : (wide : Bool) (pointee : Option IrType) (layout : Option ℕ) → is_some layout ≡ true → reference_to layout ≡ pointer_word wide pointee layout
+  pointer_by wide pointee None some = absurd cc
+  pointer_by wide pointee (Some layout) some = refl
+
+  -- a typed pointer has a shape
+  abbrev IsShaped : Option IrType → (shape : Option ℕ) → Type 0
+  IsShaped found shape = is_some (part_of_pointer found) ≡ true → is_some shape ≡ true
+
   -- under the shape that its type says, a scalar holds what it held
-  word_by : (shape old : Option ℕ) (field : ℕ) (found : Option IrType) → slice_get m.types field ≡ found → shape ≡ layout_after m (part_of_pointer found)
+  word_by : (shape old : Option ℕ) (field : ℕ) (found : Option IrType) → slice_get m.types field ≡ found → shape ≡ layout_after m (part_of_pointer found) → IsShaped found shape
       → shaped_word n shape (new_number numbers field) ≡ (if is_opaque_type found then reference_to old else word_of_type m found)
-  word_by shape old field None at is = rw (none_after m.types field at) refl
-  word_by shape old field (Some type.Void) at is = rw ((type_after m.types field type.Void at).1) refl
-  word_by shape old field (Some (type.Integer bits)) at is = rw ((type_after m.types field (type.Integer bits) at).1) refl
-  word_by shape old field (Some type.Float) at is = rw ((type_after m.types field type.Float at).1) refl
-  word_by shape old field (Some type.Double) at is = rw ((type_after m.types field type.Double at).1) refl
-  word_by shape old field (Some (type.Pointer part)) at is = rw ((type_after m.types field (type.Pointer part) at).1) (ap reference_to is)
-  word_by shape old field (Some type.Opaque) at is = absurd (no_opaque m field typed at)
-  word_by shape old field (Some (type.Array length part)) at is = rw ((type_after m.types field (type.Array length part) at).1) refl
-  word_by shape old field (Some type.EmptyStruct) at is = rw ((type_after m.types field type.EmptyStruct at).1) refl
-  word_by shape old field (Some (type.Struct first rest)) at is = rw ((type_after m.types field (type.Struct first rest) at).1) refl
-  word_by shape old field (Some (type.Named name)) at is = rw ((type_after m.types field (type.Named name) at).1) refl
+  word_by shape old field None at is shaped = rw (none_after m.types field at) refl
+  word_by shape old field (Some type.Void) at is shaped = rw ((type_after m.types field type.Void at).1) refl
+  word_by shape old field (Some (type.Integer bits)) at is shaped = rw ((type_after m.types field (type.Integer bits) at).1) refl
+  word_by shape old field (Some type.Float) at is shaped = rw ((type_after m.types field type.Float at).1) refl
+  word_by shape old field (Some type.Double) at is shaped = rw ((type_after m.types field type.Double at).1) refl
+  word_by shape old field (Some (type.Pointer part)) at is shaped =
+      let known : is_some (layout_after m (Some part)) ≡ true = subst (λ x. is_some x ≡ true) is (shaped refl) in
+      rw ((type_after m.types field (type.Pointer part) at).1) (ap reference_to is ∙ pointer_by m.wide (slice_get m.types part) (layout_after m (Some part)) known)
+  word_by shape old field (Some type.Opaque) at is shaped = absurd (no_opaque m field typed at)
+  word_by shape old field (Some (type.Array length part)) at is shaped = rw ((type_after m.types field (type.Array length part) at).1) refl
+  word_by shape old field (Some type.EmptyStruct) at is shaped = rw ((type_after m.types field type.EmptyStruct at).1) refl
+  word_by shape old field (Some (type.Struct first rest)) at is shaped = rw ((type_after m.types field (type.Struct first rest) at).1) refl
+  word_by shape old field (Some (type.Named name)) at is shaped = rw ((type_after m.types field (type.Named name) at).1) refl
 
-  word_after : (shape old : Option ℕ) (field : ℕ) → shape ≡ referenced_layout m field → shaped_word n shape (new_number numbers field) ≡ shaped_word m old field
-  word_after shape old field is = word_by shape old field (slice_get m.types field) refl is
+  word_after : (shape old : Option ℕ) (field : ℕ) → shape ≡ referenced_layout m field → IsShaped (slice_get m.types field) shape → shaped_word n shape (new_number numbers field) ≡ shaped_word m old field
+  word_after shape old field is shaped = word_by shape old field (slice_get m.types field) refl is shaped
 
-  -- the shapes from this place on are those that the types of these fields say
+  -- the shapes from this place on are those that the types of these fields say, and each pointer has one
   abbrev SayShapes : List (Option ℕ) → (place : ℕ) → List ℕ → Type 0
-  SayShapes shapes place fields = (i field : ℕ) → slice_get fields i ≡ Some field → shape_at shapes (place + i) ≡ referenced_layout m field
+  SayShapes shapes place fields =
+      (i field : ℕ) → slice_get fields i ≡ Some field → (shape_at shapes (place + i) ≡ referenced_layout m field) × IsShaped (slice_get m.types field) (shape_at shapes (place + i))
 
   words_after : (shapes old : List (Option ℕ)) (place : ℕ) (fields : List ℕ) (words : List WordKind) → SayShapes shapes place fields → AreWords m old place fields words
       → AreWords n shapes place (map (new_number numbers) fields) words
@@ -95,9 +107,11 @@ module _ (m : Module) (given : Shapes) (typed : is_opaque_text m ≡ false) wher
   words_after shapes old place (field ∷ fields) [] say are = absurd are
   words_after shapes old place (field ∷ fields) (word ∷ words) say are =
       let first : place ≡ place + 0 = omega arith in
-      let here : shape_at shapes place ≡ referenced_layout m field = ap (shape_at shapes) first ∙ say 0 field refl in (
-        word_after (shape_at shapes place) (shape_at old place) field here ∙ are.0,
-        words_after shapes old (suc place) fields words (λ i x e. let next : suc place + i ≡ place + suc i = omega arith in ap (shape_at shapes) next ∙ say (suc i) x e) are.1,
+      let here = say 0 field refl in
+      let says = λ (at : ℕ) (x : ℕ). (shape_at shapes at ≡ referenced_layout m x) × IsShaped (slice_get m.types x) (shape_at shapes at) in
+      let said : says place field = subst (λ at. says at field) (sym first) here in (
+        word_after (shape_at shapes place) (shape_at old place) field said.0 said.1 ∙ are.0,
+        words_after shapes old (suc place) fields words (λ i x e. let next : place + suc i ≡ suc place + i = omega arith in subst (λ at. says at x) next (say (suc i) x e)) are.1,
       )
 
   -- ---- scalars
@@ -148,7 +162,12 @@ module _ (m : Module) (given : Shapes) (typed : is_opaque_text m ≡ false) wher
 
     -- ---- layouts
 
-    module _ (rows : List (List ℕ)) (are_rows : AreFieldRows m rows) (own : HasStructs m) (words_given : given.words ≡ map (typed_row m rows) m.struct_of) where
+    -- each pointer of a struct, whose fields these are, has a shape
+    abbrev AreShaped : (rows : List (List ℕ)) → Type 0
+    AreShaped rows = (layout : ℕ) (struct : StructType) (fields : List ℕ) (i field : ℕ) → slice_get m.structs layout ≡ Some struct → slice_get rows layout ≡ Some fields → slice_get fields i ≡ Some field
+        → IsShaped (slice_get m.types field) (shape_at (row_at given.words struct.name) i)
+
+    module _ (rows : List (List ℕ)) (are_rows : AreFieldRows m rows) (own : HasStructs m) (words_given : given.words ≡ map (typed_row m rows) m.struct_of) (shaped : AreShaped rows) where
       row_is : (struct : StructType) (fields row : List ℕ) → Scalars m struct.body fields → length fields ≤ 64 → IsFieldRow m struct row → row ≡ fields
       row_is struct fields row scalars few (inl p) = one_list m struct.body row fields p.0 scalars
       row_is struct fields row scalars few (inr p) = absurd (let many = p.0 fields scalars in omega (arith, few, many))
@@ -171,11 +190,13 @@ module _ (m : Module) (given : Shapes) (typed : is_opaque_text m ≡ false) wher
 
       say_shapes : (layout : ℕ) (struct : StructType) (fields : List ℕ) → slice_get m.structs layout ≡ Some struct → slice_get rows layout ≡ Some fields → SayShapes (shapes_of n struct) 0 fields
       say_shapes layout struct fields at there i field e =
-          let first : 0 + i ≡ i = omega arith in
-          ap (shape_at (shapes_of n struct)) first
-          ∙ ap (λ row. shape_at row i) (given_row layout struct fields at there)
+          let first : i ≡ 0 + i = omega arith in
+          let says : shape_at (row_at given.words struct.name) i ≡ referenced_layout m field =
+          ap (λ row. shape_at row i) (given_row layout struct fields at there)
           ∙ ap (λ found. unwrap_or found None) (slice_get-map (referenced_layout m) fields i)
-          ∙ ap (λ found. unwrap_or (option_map (referenced_layout m) found) None) e
+          ∙ ap (λ found. unwrap_or (option_map (referenced_layout m) found) None) e in
+          subst (λ place. (shape_at (row_at given.words struct.name) place ≡ referenced_layout m field) × IsShaped (slice_get m.types field) (shape_at (row_at given.words struct.name) place)) first
+          (says, shaped layout struct fields i field at there e)
 
       layout_after_it : (layout : ℕ) (struct : StructType) (words : List WordKind) → slice_get m.structs layout ≡ Some struct → IsLayout m struct words → IsLayout n (opaque_struct numbers struct) words
       layout_after_it layout struct words at h =
@@ -205,7 +226,8 @@ module _ (m : Module) (given : Shapes) (typed : is_opaque_text m ≡ false) wher
 
   -- ---- globals
 
-  module _ (own : HasGlobals m) (globals_given : given.globals ≡ map (typed_global m) m.sorts) where
+  module _ (own : HasGlobals m) (globals_given : given.globals ≡ map (typed_global m) m.sorts)
+      (shaped : (g : ℕ) (global : Global) → slice_get m.globals g ≡ Some global → IsShaped (slice_get m.types global.held) (shape_at given.globals global.symbol)) where
     global_shape_is : (g : ℕ) (global : Global) → slice_get m.globals g ≡ Some global → shape_at given.globals global.symbol ≡ referenced_layout m global.held
     global_shape_is g global at =
         ap (λ row. shape_at row global.symbol) globals_given
@@ -214,7 +236,7 @@ module _ (m : Module) (given : Shapes) (typed : is_opaque_text m ≡ false) wher
         ∙ ap (λ found. typed_held m (held_in found)) at
 
     global_word : (g : ℕ) (global : Global) → slice_get m.globals g ≡ Some global → word_of_global n (opaque_global numbers global) ≡ word_of_global m global
-    global_word g global at = word_after (shape_at given.globals global.symbol) (global_shape m.shapes global.symbol) global.held (global_shape_is g global at)
+    global_word g global at = word_after (shape_at given.globals global.symbol) (global_shape m.shapes global.symbol) global.held (global_shape_is g global at) (shaped g global at)
 
     pub words_same : map (word_of_global n) n.globals ≡ map (word_of_global m) m.globals
     words_same = same_lists (word_of_global n) (opaque_global numbers) (word_of_global m) m.globals global_word

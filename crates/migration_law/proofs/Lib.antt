@@ -7,6 +7,7 @@ pub mod RootsAfter
 pub mod ClaimsAfter
 pub mod SectionsAfter
 pub mod ForeignAfter
+pub mod Gaps
 pub mod CellsAfter
 pub mod MigratedCells
 pub mod ShapesAfter

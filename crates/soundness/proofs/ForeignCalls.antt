@@ -134,7 +134,9 @@ module _ (heap : Setup) (p : LaidOut) (certs : List Section) (reaches : Bool) (f
       let within_so = and_parts within_taken past_typed k2.0 in
       let types = and_parts (returned == d.returned) (list_all is_written_at (zip arguments d.parameters)) k2.1 in
       let taken = all_taken d.parameters arguments enough types.1 (all K1) within_so.0 (all K10) (all K18) in
-      let asked : a.call_action p f table frame.registers returned arguments (Some d) defined None ≡ a.asked_outside (slice_get m.types returned) = rw (wide.0, types.0, taken) refl in
+      let fit = a.are_outside_arguments m f table frame.registers d.parameters arguments in
+      let may : (m.wide && ((returned == d.returned) && fit)) ≡ true = and_true m.wide ((returned == d.returned) && fit) wide.0 (and_true (returned == d.returned) fit types.0 taken) in
+      let asked : a.call_action p f table frame.registers returned arguments (Some d) defined None ≡ a.asked_outside (slice_get m.types returned) = rw may refl in
       let datum = is_integer (kind_of m returned) || is_pointer (kind_of m returned) in
       let given : (is_void (kind_of m returned) || datum) ≡ true = subst (λ t. (is_void (kind_of m t) || (is_integer (kind_of m t) || is_pointer (kind_of m t))) ≡ true) (sym (test_true returned d.returned types.0)) right.0 in
       elim (or_parts (is_void (kind_of m returned)) datum given) [
