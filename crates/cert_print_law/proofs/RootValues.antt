@@ -50,6 +50,7 @@ module _ (m : Module) (f : Function) (slots : SlotTable) where
   op_marked : (x : Op) (result : Option ℕ) (roots : List Bool) → HasResult f result → AreValues roots → AreValues (root_recorded slots x result roots)
   op_marked (op.Memory (memory.Alloca held)) (Some value) roots has h = one_marked roots value (is_root slots value) (value_sort (slice_get f.sorts value) has.1) h
   op_marked (op.Memory (memory.Alloca held)) None roots has h = h
+  op_marked (op.Memory (memory.Buffer held count)) result roots has h = h
   op_marked (op.Memory (memory.Load loaded place_type place)) result roots has h = h
   op_marked (op.Memory (memory.Store stored x place_type place)) result roots has h = h
   op_marked (op.Number x) result roots has h = h

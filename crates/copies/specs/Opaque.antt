@@ -1,5 +1,5 @@
 -- A module with opaque pointers in the place of its typed ones.
-use Rattle.std.specs.Prelude.{ℕ, List, [], ◌∷◌, ◌++◌, map, Option, Some, None, slice_get, unwrap_or}
+use Rattle.std.specs.Prelude.{ℕ, List, [], ◌∷◌, ◌++◌, map, Option, Some, None, option_map, slice_get, unwrap_or}
 use Rattle.ir_ast.specs.declared.argument.Argument.{Argument}
 use Rattle.ir_ast.specs.declared.block.Block.{Block}
 use Rattle.ir_ast.specs.declared.calls.Call.{Call}
@@ -104,6 +104,7 @@ module _ (numbers : List ℕ) where
 
   abbrev pub opaque_memory : MemoryOp → MemoryOp
   opaque_memory (memory.Alloca held) = memory.Alloca (new_number numbers held)
+  opaque_memory (memory.Buffer held count) = memory.Buffer (new_number numbers held) (option_map opaque_argument count)
   opaque_memory (memory.Load loaded place_type place) = memory.Load (new_number numbers loaded) (new_number numbers place_type) (opaque_operand place)
   opaque_memory (memory.Store stored value place_type place) = memory.Store (new_number numbers stored) (opaque_operand value) (new_number numbers place_type) (opaque_operand place)
 

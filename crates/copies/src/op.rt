@@ -1,5 +1,5 @@
 //! Instructions with the new numbers of their types.
-ghost use Rattle.std.specs.Prelude.{◌≡◌, IfOk};
+ghost use Rattle.std.specs.Prelude.{◌≡◌, option_map, IfOk};
 ghost use Rattle.copies.specs.Opaque as spec;
 
 use crate::made_opaque::{MadeOpaque, all_opaque};
@@ -123,11 +123,25 @@ fn opaque_number(numbers: &[TypeId], op: NumberOp) -> NumberOp
     }
 }
 
+/// How many elements a buffer has, if they are counted.
+fn opaque_count(numbers: &[TypeId], count: Option<Argument>) -> Option<Argument>
+    ensures { result ≡ option_map (spec.opaque_argument numbers.now) count }
+{
+    match count {
+        Some(count) => Some(opaque_argument(numbers, count)),
+        None => None,
+    }
+}
+
 fn opaque_memory(numbers: &[TypeId], op: MemoryOp) -> MemoryOp
     ensures { result ≡ spec.opaque_memory numbers.now op }
 {
     match op {
         MemoryOp::Alloca(held) => MemoryOp::Alloca(new_number(numbers, held)),
+        MemoryOp::Buffer { held, count } => MemoryOp::Buffer {
+            held: new_number(numbers, held),
+            count: opaque_count(numbers, count),
+        },
         MemoryOp::Load {
             loaded,
             place_type,

@@ -1,4 +1,5 @@
 //! Slots, and what is read from places and put there.
+use crate::argument::Argument;
 use crate::operand::Operand;
 use crate::type_id::TypeId;
 
@@ -7,6 +8,11 @@ use crate::type_id::TypeId;
 pub enum MemoryOp {
     /// A slot that holds a value of this type.
     Alloca(TypeId),
+    /// Memory of the stack that is no slot: an array or a struct of this type, or as many values of the type as are counted.
+    Buffer {
+        held: TypeId,
+        count: Option<Argument>,
+    },
     /// The value at a place, whose written type is `place_type`.
     Load {
         loaded: TypeId,

@@ -151,6 +151,7 @@ debug_records = many at_no_record effectless effectless_takes >> pure tt
 -- what may follow an instruction
 abbrev pub trail_of : Op → Trail
 trail_of (op.Memory (memory.Alloca held)) = trail.Slot
+trail_of (op.Memory (memory.Buffer held count)) = trail.Slot
 trail_of (op.Memory x) = trail.Memory
 trail_of _ = trail.Other
 

@@ -198,7 +198,7 @@ fn trail_of(op: &Op) -> Trail
     ensures { result ≡ form.trail_of op.now }
 {
     match op {
-        Op::Memory(MemoryOp::Alloca(_)) => Trail::Slot,
+        Op::Memory(MemoryOp::Alloca(_) | MemoryOp::Buffer { .. }) => Trail::Slot,
         Op::Memory(_) => Trail::Memory,
         _ => Trail::Other,
     }

@@ -2,11 +2,30 @@
 ghost use Rattle.std.specs.Prelude.{◌≡◌, ◌++◌, OnOk};
 ghost use Rattle.ir_print.specs.Memory as spec;
 
-use crate::operands::put_typed;
+use crate::operands::{put_argument, put_typed};
 use crate::parts::{put_placed, typed};
 use crate::types::put_type;
-use ir_ast::{MemoryOp, Module, Names};
+use ir_ast::{Argument, MemoryOp, Module, Names};
 use std::alloc::{AllocError, Global};
+
+/// How many elements are counted, if they are.
+fn put_count(
+    alloc: Global,
+    out: &mut Vec<u8>,
+    module: &Module,
+    locals: &Names,
+    count: &Option<Argument>,
+) -> Result<(), AllocError>
+    ensures { OnOk result (out.new.items ≡ out.old.items ++ spec.count_text «module».now locals.now count.now) }
+{
+    match count {
+        Some(count) => {
+            out.extend_from_slice(b", ")?;
+            put_argument(alloc, out, module, locals, count)
+        }
+        None => Ok(()),
+    }
+}
 
 /// An operation on memory.
 pub fn put_memory(
@@ -22,6 +41,11 @@ pub fn put_memory(
         MemoryOp::Alloca(held) => {
             out.extend_from_slice(b"alloca ")?;
             put_type(alloc, out, module, held)
+        }
+        MemoryOp::Buffer { held, count } => {
+            out.extend_from_slice(b"alloca ")?;
+            put_type(alloc, out, module, held)?;
+            put_count(alloc, out, module, locals, &count)
         }
         MemoryOp::Load {
             loaded,

@@ -63,6 +63,7 @@ module _ (m : Module) (types : List IrType) (fs : List Function) (more : IsLonge
     gives_again : (x : Op) → IsOp m f x → gives_value m x ≡ gives_value longer x
     gives_again (op.Number x) h = refl
     gives_again (op.Memory (memory.Alloca held)) h = refl
+    gives_again (op.Memory (memory.Buffer held count)) h = refl
     gives_again (op.Memory (memory.Load loaded place_type place)) h = refl
     gives_again (op.Memory (memory.Store stored value place_type place)) h = refl
     gives_again (op.Element x) h = refl

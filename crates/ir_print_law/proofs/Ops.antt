@@ -1,9 +1,9 @@
 -- Operations are read alike in both.
 use Rattle.std.proofs.Common.{◌≡◌, ℕ, Bool, true, false, not, Option, None, Some, refl, sym, ap, ap₂, subst, ◌∙◌}
-use Rattle.std.specs.Prelude.{◌&&◌}
+use Rattle.std.specs.Prelude.{cond, ◌&&◌}
 use Rattle.ir_tokens.specs.declared.token.Kind.{Kind}
 use Rattle.ir_tokens.specs.declared.token.Kind.TheVariants as k
-use Rattle.grammar.specs.Grammar.{pure}
+use Rattle.grammar.specs.Grammar.{pure, look}
 use Rattle.ir_ast.specs.declared.calls.Call.{Call}
 use Rattle.ir_ast.specs.declared.casts.Cast.{Cast}
 use Rattle.ir_ast.specs.declared.function.LocalSort.TheVariants as local
@@ -19,7 +19,7 @@ use Rattle.ir_ast.specs.declared.op.Op.{Op}
 use Rattle.ir_ast.specs.declared.op.Op.TheVariants as op
 use Rattle.ir_ast.specs.declared.operand.Constant.TheVariants as constant
 use Rattle.ir_ast.specs.declared.operand.Operand.TheVariants as operand
-use Rattle.ir_forms.specs.Cursor.{kind, kind_after, kind_third, same_kind}
+use Rattle.ir_forms.specs.Cursor.{kind, kind_after, kind_third, same_kind, sees}
 use Rattle.ir_forms.specs.declared.choices.Entries.{Entries}
 use Rattle.ir_forms.specs.declared.decorating.Spot.TheVariants as spot
 use Rattle.ir_forms.specs.declared.decorating.Trail.TheVariants as trail
@@ -35,9 +35,9 @@ use Rattle.ir_forms.specs.FloatOps.{float_word_here, number_op_by, as_number}
 use Rattle.ir_forms.specs.declared.float_ops.FloatWord.{FloatWord}
 use Rattle.ir_print_law.proofs.AnewFloats.{float_word_same, float_op_same}
 use Rattle.ir_forms.specs.Instructions.{wide_op_by, wide_op, named_op_by}
-use Rattle.ir_forms.specs.Written.{word_of}
+use Rattle.ir_forms.specs.Written.{is_scalar, word_of}
 use Rattle.ir_forms.specs.Numbers.{typed_integer, pair, arithmetic_of, arithmetic, wide_here, wide_by, wide_or_resized, wide_arithmetic, exact, is_exact, resize_of, resize, comparison_of, comparison_by, comparison, compare, bit_type, condition, resize_by, resized, arithmetic_by, integer_op}
-use Rattle.ir_forms.specs.Memory.{alloca, place_of, load, store}
+use Rattle.ir_forms.specs.Memory.{held_by, counts, is_integer_word, count_type, counted_by, count, single, counted, local_by, local_of, alloca, place_of, load, store}
 use Rattle.ir_forms.specs.Elements.{element}
 use Rattle.ir_forms.specs.Casts.{bitcast, freezes, freeze}
 use Rattle.ir_forms.specs.Choices.{typed_pair, select, separated, incoming, entry, entry_takes, ends_entries, after_entry, all_entries, is_local, begins_phi, at_no_phi, phi_value_by, phi_value, phi, phi_takes, phis}
@@ -49,7 +49,7 @@ use Rattle.ir_forms.specs.declared.written.Word.{Word}
 use Rattle.ir_forms.specs.declared.written.Word.TheVariants as sort
 use Rattle.ir_print_law.specs.Shapes.{Integer}
 use Rattle.ir_print_law.proofs.Seats.{Seat, Beside, sees_same, spelling_same, kind_same, after_same, third_same}
-use Rattle.ir_print_law.proofs.Sim.{Between, Any, Equal, At, Both, Same, past, both, by, and, then, give, gives, refuses, so, tells, by_kind, kinds, looks, lists, lists_by}
+use Rattle.ir_print_law.proofs.Sim.{Between, Any, Equal, At, Both, Same, past, both, by, and, then, give, gives, refuses, tested, so, tells, by_kind, kinds, looks, lists, lists_by}
 use Rattle.ir_print_law.proofs.AnewSteps.{skip_same, expect_same, seen}
 use Rattle.ir_print_law.proofs.Names.{set_sort_at, new_value_at, numbered_value_at, unnamed_value_at, incoming_label_at}
 use Rattle.ir_print_law.proofs.AnewTypes.{Written, written_later, bits_same, intern_at, integer_scalar_at, scalar_at, result_type_at, any_type_at}
@@ -158,11 +158,60 @@ module _ (s : Seat) where
   abbrev Memories : Between MemoryOp MemoryOp
   Memories o p x y = Trails o p (op.Memory x) (op.Memory y)
 
+  -- a type of integers
+  count_type_at : Both s Written count_type count_type
+  unfolding count_type
+  count_type_at i j = then s (scalar_at s i j) (λ w u m q h x y.
+      then s (tested s (λ _. is_integer_word (word_of w)) (λ _. is_integer_word (word_of u)) unexpected unexpected m q (λ b e. ap is_integer_word (sym (bits_same m q w u h)) ∙ e))
+      (λ _ _ n r _ z e. give s {V = Written} w u (written_later m q n r w u z e h)))
+
+  counted_by_same : Same s counted_by
+  unfolding counted_by
+  counted_by_same i j = then s (count_type_at i j) (λ v u m q h x y. and s (operand_at s (word_of v) (word_of u) (bits_same m q v u h) m q) (λ a b. gives s (record { written = v.id; operand = a }) (record { written = u.id; operand = b })))
+
+  count_same : Same s count
+  unfolding count
+  count_same = both s (expect_same s k.Comma) counted_by_same
+
+  -- a count follows in both, or in neither
+  counts_same : (i j : Input) → Beside s i j → counts i ≡ counts j
+  unfolding counts sees
+  counts_same i j b = ap (λ (x : Bool). x && (sees k.Comma i.cursor && same_kind (kind_after i.cursor) k.IntegerType)) b.forms ∙ ap (λ (x : Bool). j.wide && x) (which (sees k.Comma j.cursor) refl) where
+    same : sees k.Comma i.cursor ≡ sees k.Comma j.cursor
+    same = sees_same s k.Comma i.cursor j.cursor b.along
+
+    which : (t : Bool) → sees k.Comma j.cursor ≡ t → (sees k.Comma i.cursor && same_kind (kind_after i.cursor) k.IntegerType) ≡ (sees k.Comma j.cursor && same_kind (kind_after j.cursor) k.IntegerType)
+    which false e = ap (λ (x : Bool). x && same_kind (kind_after i.cursor) k.IntegerType) (same ∙ e) ∙ sym (ap (λ (x : Bool). x && same_kind (kind_after j.cursor) k.IntegerType) e)
+    which true e =
+        let after = after_same s i.cursor j.cursor b.along (λ close. let one : k.Comma ≡ k.CloseBrace = sym (equals_is (kind j.cursor) k.Comma e) ∙ close in cc) in
+        ap (λ (x : Bool). x && same_kind (kind_after i.cursor) k.IntegerType) same ∙ ap (λ (x : Kind). sees k.Comma j.cursor && same_kind x k.IntegerType) after
+
+  -- the same may follow what an alloca makes, a slot or a buffer
+  single_trail : (v : WrittenType) → trail_of (op.Memory (single v)) ≡ trail.Slot
+  single_trail v = by (is_scalar v) where
+    by : (b : Bool) → trail_of (op.Memory (cond b (memory.Alloca v.id) (memory.Buffer v.id None))) ≡ trail.Slot
+    by true = refl
+    by false = refl
+
+  local_by_at : (v u : WrittenType) (t : Bool) → Both s Memories (local_by v t) (local_by u t)
+  local_by_at v u true i j = and s (count_same i j) (λ x y i j. give s {V = Memories} (counted v x) (counted u y) refl)
+  local_by_at v u false i j = give s {V = Memories} (single v) (single u) (single_trail v ∙ sym (single_trail u))
+
+  local_at : (v u : WrittenType) → Both s Memories (local_of v) (local_of u)
+  local_at v u i j = looks s {V = Memories} counts counts (local_by v) (local_by u) i j (counts_same i j) (λ t. local_by_at v u t i j)
+
+  held_by_at : (wide : Bool) → Both s Written (held_by wide) (held_by wide)
+  held_by_at true = any_type_at s
+  held_by_at false = scalar_at s
+
+  held_at : Both s Written (look (λ i. i.wide) held_by) (look (λ i. i.wide) held_by)
+  held_at i j = looks s (λ i. i.wide) (λ i. i.wide) held_by held_by i j (λ beside. beside.forms) (λ t. held_by_at t i j)
+
   alloca_at : (value : ℕ) → Both s Memories (alloca value) (alloca value)
   unfolding alloca
   alloca_at value i j =
-      past s (skip_same s i j) (λ i j. and s (scalar_at s i j) (λ v u i j. past s (set_sort_at s value (local.Slot v.id) (local.Slot u.id) refl i j)
-      (λ i j. give s {V = Memories} (memory.Alloca v.id) (memory.Alloca u.id) refl)))
+      past s (skip_same s i j) (λ i j. and s (held_at i j) (λ v u i j. then s (local_at v u i j) (λ a b m q h x y. past s (set_sort_at s value (local.Slot v.id) (local.Slot u.id) refl m q)
+      (λ i j. give s {V = Memories} a b h))))
 
   place_at : (v u : WrittenType) (i j : Input) → Written i j v u → At s Any (place_of v) (place_of u) i j
   unfolding place_of

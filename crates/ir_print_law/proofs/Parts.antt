@@ -107,7 +107,7 @@ module _ {m : Module} {f : Function} (v : Invariant m f) where
   typed_after p = form.operand (w.word_of p) >>= λ y. pure (record { written = p.id; operand = y })
 
   -- `T V`, where the type is read by this form
-  typed_by : (type_form : Form WrittenType) (t : ℕ) (x : Operand) (i : Input) (gap rest : Text) (s : ℕ) → (own : IsArgument m f (typed t x)) → IsSeam rest
+  pub typed_by : (type_form : Form WrittenType) (t : ℕ) (x : Operand) (i : Input) (gap rest : Text) (s : ℕ) → (own : IsArgument m f (typed t x)) → IsSeam rest
       → ((afterwards : Text) → EndsType afterwards → Ready v s i (gap ++ (shown false own.0 ++ afterwards)) → Reads v s type_form i afterwards (IsTypeRead own.0 64))
       → Ready v s i (gap ++ (typed_text m f.locals t x ++ rest)) → Reads v s (type_form >>= typed_after) i rest (ArgumentAgain m f.locals (typed t x))
   unfolding class_of

@@ -1,6 +1,6 @@
 -- Instructions that are printable are so once they are opaque.
 use Rattle.std.proofs.Common.{◌≡◌, ◌<◌, ℕ, false, not, List, [], ◌∷◌, ◌++◌, map, Option, None, Some, inl, inr, refl, sym, ap, ap₂, ◌∙◌, subst}
-use Rattle.std.specs.Prelude.{drop, slice_get}
+use Rattle.std.specs.Prelude.{drop, option_map, slice_get}
 use Rattle.std.specs.List.{AllByRecursion, flat_map}
 use Rattle.lemmas.specs.Lists.{IsIn}
 use Rattle.ir_ast.specs.Names.{name_at}
@@ -32,7 +32,7 @@ use Rattle.ir_forms.specs.declared.written.Word.{Word}
 use Rattle.copies.specs.Opaque.{opaque_float, new_number, opaque_argument, opaque_block, opaque_declare, opaque_end, opaque_function, opaque_global, opaque_incoming, opaque_instr, opaque_memory, opaque_number, opaque_op, opaque_operand, opaque_parameter, opaque_phi}
 use Rattle.ir_print_law.specs.Calls.{IsCall}
 use Rattle.ir_print_law.specs.Definitions.{IsUsed, block_keys, declared_functions, defined_globals, defined_keys, functions_of, label_keys, parameter_key, parameter_keys, phi_key, result_keys, value_keys, value_keys_of}
-use Rattle.ir_print_law.specs.Memory.{IsMemoryOp, memory_gives_value}
+use Rattle.ir_print_law.specs.Memory.{IsCount, IsMemoryOp, memory_gives_value}
 use Rattle.ir_print_law.specs.Numbers.{IsNumberOp}
 use Rattle.ir_forms.specs.FloatOps.{may_convert}
 use Rattle.ir_forms.specs.Written.{is_float_word}
@@ -42,9 +42,9 @@ use Rattle.ir_ast.specs.declared.floats.FloatOp.TheVariants as float
 use Rattle.ir_print_law.specs.Floats.{IsFloatOp}
 use Rattle.ir_print_law.specs.Parts.{word_of_type, IsFloat, IsNoFloat, ArePair, IsArgument, IsCondition, IsConverted, IsGlobalUse, IsOperand, IsReturned, IsTarget}
 use Rattle.ir_print_law.specs.Printable.{AreCases, IsBlock, IsEnd, IsIncoming, IsInstr, IsOp, IsPhi, gives_value}
-use Rattle.ir_print_law.specs.Shapes.{Shape, HasShape, word_of_shape}
+use Rattle.ir_print_law.specs.Shapes.{Shape, Integer, HasShape, word_of_shape}
 use Rattle.migration_law.specs.PartsBefore.{ArePartsBefore}
-use Rattle.migration_law.proofs.ShapesAfter.{word_still, bits_same, integer_still, map_twice, numbers, o, opaque_shape, place_still, scalar_type_still, type_still, void_same, void_still}
+use Rattle.migration_law.proofs.ShapesAfter.{word_still, bits_same, integer_still, map_twice, no_scalar_still, numbers, o, opaque_shape, place_still, scalar_type_still, type_still, void_same, void_still}
 
 -- ---- lists
 
@@ -161,8 +161,13 @@ module _ (m : Module) (ordered : ArePartsBefore m.types) where
     number_op (number.Compare kind t x y) h = (no_float h.1.0 t h.1.1.0.0 h.0, pair t x y h.1)
     number_op (number.Float x) h = (h.0, float_op x h.1)
 
+    counted : (shape : Shape) (x : Option Argument) → IsCount m f shape x → IsCount (o m ordered) made (opaque_shape shape) (option_map (opaque_argument (numbers m ordered)) x)
+    counted shape None h = no_scalar_still shape h
+    counted shape (Some x) h = (h.0, scalar_type_still m ordered (Integer h.0) x.written h.1, read (sort.Integer h.0) x.operand h.2)
+
     memory_op : (x : MemoryOp) → IsMemoryOp m f x → IsMemoryOp (o m ordered) made (opaque_memory (numbers m ordered) x)
     memory_op (memory.Alloca held) h = (opaque_shape h.0, scalar_type_still m ordered h.0 held h.1)
+    memory_op (memory.Buffer held count) h = (h.0, (opaque_shape h.1.0, type_still m ordered h.1.0 held h.1.1, counted h.1.0 count h.1.2))
     memory_op (memory.Load loaded place_type place) h = (opaque_shape h.0, scalar_type_still m ordered h.0 loaded h.1, place_still m ordered h.0 loaded place_type h.2, read sort.Pointer place h.3)
     memory_op (memory.Store stored x place_type place) h =
         (opaque_shape h.0, scalar_type_still m ordered h.0 stored h.1, read_at h.0 x h.2, place_still m ordered h.0 stored place_type h.3, read sort.Pointer place h.4)
@@ -191,6 +196,7 @@ module _ (m : Module) (ordered : ArePartsBefore m.types) where
 
     memory_gives : (x : MemoryOp) → memory_gives_value (opaque_memory (numbers m ordered) x) ≡ memory_gives_value x
     memory_gives (memory.Alloca held) = refl
+    memory_gives (memory.Buffer held count) = refl
     memory_gives (memory.Load loaded place_type place) = refl
     memory_gives (memory.Store stored x place_type place) = refl
 

@@ -161,6 +161,7 @@ module _ (m : Module) where
     op_draft : (name : Option ℕ) (x : Op) (d : Draft) → recorded_op name (opaque_op (numbers m) x) (draft_made d) ≡ draft_made (recorded_op name x d)
     op_draft name (op.Number x) d = refl
     op_draft name (op.Memory (memory.Alloca held)) d = rw (map-length (new_number (numbers m)) d.held, map-append (new_number (numbers m)) d.held (held ∷ [])) refl
+    op_draft name (op.Memory (memory.Buffer held count)) d = refl
     op_draft name (op.Memory (memory.Load loaded place_type place)) d = refl
     op_draft name (op.Memory (memory.Store stored x place_type place)) d = refl
     op_draft name (op.Element x) d = refl
@@ -260,6 +261,7 @@ module _ (m : Module) where
     op_below : (x : Op) (name : Option ℕ) (xs ys : List Bool) → Below xs ys → Below (root_recorded (slots_of m f) x name xs) (root_recorded (slots_of (o m) made) (opaque_op (numbers m) x) name ys)
     op_below (op.Memory (memory.Alloca held)) (Some value) xs ys h = below_set xs ys value (is_root (slots_of m f) value) (is_root (slots_of (o m) made) value) h (is_root_stays value)
     op_below (op.Memory (memory.Alloca held)) None xs ys h = h
+    op_below (op.Memory (memory.Buffer held count)) name xs ys h = h
     op_below (op.Memory (memory.Load loaded place_type place)) name xs ys h = h
     op_below (op.Memory (memory.Store stored x place_type place)) name xs ys h = h
     op_below (op.Number x) name xs ys h = h

@@ -1,5 +1,5 @@
 -- Types that are printable are so with `ptr` for each pointer.
-use Rattle.std.proofs.Common.{◌≡◌, ◌≤◌, ℕ, zero, suc, Bool, true, List, [], ◌∷◌, map, slice_get, Option, None, Some, inl, inr, refl, sym, ap, ◌∙◌, subst, arith}
+use Rattle.std.proofs.Common.{◌≡◌, ◌≤◌, ℕ, zero, suc, Bool, true, false, List, [], ◌∷◌, map, slice_get, Option, None, Some, inl, inr, refl, sym, ap, ◌∙◌, subst, arith}
 use Rattle.std.specs.List.{list_any}
 use Rattle.lemmas.specs.Lists.{any_at}
 use Rattle.lemmas.specs.Bools.{or_first, or_second}
@@ -81,6 +81,16 @@ scalar_still Empty is = absurd cc
 scalar_still (Struct first rest) is = absurd cc
 scalar_still (Named name) is = absurd cc
 scalar_still Opaque is = refl
+
+pub no_scalar_still : (shape : Shape) → is_scalar_shape shape ≡ false → is_scalar_shape (opaque_shape shape) ≡ false
+no_scalar_still (Integer bits) is = absurd cc
+no_scalar_still (Float t) is = absurd cc
+no_scalar_still (Pointer part) is = absurd cc
+no_scalar_still (Array count part) is = refl
+no_scalar_still Empty is = refl
+no_scalar_still (Struct first rest) is = refl
+no_scalar_still (Named name) is = refl
+no_scalar_still Opaque is = absurd cc
 
 pub struct_shape_still : (shape : Shape) → is_struct_shape shape ≡ true → is_struct_shape (opaque_shape shape) ≡ true
 struct_shape_still (Integer bits) is = absurd cc

@@ -21,6 +21,7 @@ module _ (m : Module) (f : Function) where
   types_below : (x : Op) → IsOpWithin m f x → AreTypesBelow (length m.types) x
   types_below (op.Number x) h = tt
   types_below (op.Memory (memory.Alloca held)) h = h
+  types_below (op.Memory (memory.Buffer held count)) h = tt
   types_below (op.Memory (memory.Load loaded place_type place)) h = tt
   types_below (op.Memory (memory.Store stored x place_type place)) h = tt
   types_below (op.Element x) h = (h.0, h.1)

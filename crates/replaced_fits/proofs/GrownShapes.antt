@@ -47,6 +47,7 @@ module _ (m n : Module) (g : Grows m n) (closed : IsClosed m) where
     op_implies : (result : Option ℕ) (x : Op) → AreTypesBelow (length m.types) x → Implies (op_fits m given f result x) (op_fits n given f result x)
     op_implies None x below h = refl
     op_implies (Some name) (op.Memory (memory.Alloca held)) below h = slot_same name held below ∙ h
+    op_implies (Some name) (op.Memory (memory.Buffer held count)) below h = refl
     op_implies (Some name) (op.Memory (memory.Load loaded place_type place)) below h = refl
     op_implies (Some name) (op.Memory (memory.Store stored x place_type place)) below h = refl
     op_implies (Some name) (op.Number x) below h = refl

@@ -120,6 +120,7 @@ module _ (m n : Module) (g : Grows m n) (closed : IsClosed m) where
 
   op_below : (name : Option ℕ) (x : Op) (draft : Draft) → AreTypesBelow (length m.types) x → AreBelow draft.held → AreBelow (recorded_op name x draft).held
   op_below name (op.Memory (memory.Alloca held)) draft less below = all_join (λ (t : ℕ). t < length m.types) draft.held (held ∷ []) below (less, tt)
+  op_below name (op.Memory (memory.Buffer held count)) draft less below = below
   op_below name (op.Memory (memory.Load loaded place_type place)) draft less below = below
   op_below name (op.Memory (memory.Store stored x place_type place)) draft less below = below
   op_below name (op.Number x) draft less below = below

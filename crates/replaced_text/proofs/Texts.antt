@@ -41,14 +41,14 @@ use Rattle.ir_print.specs.Elements.{element_word, index_text}
 use Rattle.ir_print.specs.Ends.{case_text, end_text, target_text}
 use Rattle.ir_print.specs.Instructions.{instruction_line, op_text, result_text}
 use Rattle.ir_print.specs.Items.{collector_text, declare_line, function_text, global_line, global_word, parameter_text, struct_line}
-use Rattle.ir_print.specs.Memory.{memory_op_text}
+use Rattle.ir_print.specs.Memory.{count_text, memory_op_text}
 use Rattle.ir_print.specs.Names.{name_at, global_text, key_text, local_text, struct_text}
 use Rattle.ir_print.specs.Numbers.{arithmetic_word, comparison_word, number_op_text, resize_word}
 use Rattle.ir_print.specs.Operands.{argument_text, constant_text, listed, operand_text, typed_text}
 use Rattle.ir_print.specs.Parts.{converted_text, pair_text, placed_text, typed}
 use Rattle.ir_print.specs.Types.{type_text}
 use Rattle.ir_print_law.specs.Calls.{IsCall}
-use Rattle.ir_print_law.specs.Memory.{IsMemoryOp}
+use Rattle.ir_print_law.specs.Memory.{IsCount, IsMemoryOp}
 use Rattle.ir_print_law.specs.Numbers.{IsNumberOp}
 use Rattle.ir_print_law.specs.Parts.{ArePair, IsArgument, IsCondition, IsConverted, IsOperand, IsPlaceType, IsReturned, IsVoid}
 use Rattle.ir_print_law.specs.Printable.{IsAnyType, IsBlock, IsDeclare, IsEnd, IsFunction, IsGlobal, IsIncoming, IsInstr, IsOp, IsParameter, IsPassed, IsPhi, IsStructType}
@@ -135,8 +135,13 @@ module _ (m : Module) (types : List IrType) (fs : List Function) (more : Stay m.
     number_op (number.Compare kind t x y) h = ap (λ (text : Text). codes "icmp " ++ comparison_word kind ++ text) (pair t x y h.1)
     number_op (number.Float x) h = float_op x h.1
 
+    counted : (shape : Shape) (x : Option Argument) → IsCount m f shape x → count_text m f.locals x ≡ count_text n f.locals x
+    counted shape None h = refl
+    counted shape (Some x) h = ap (λ (text : Text). codes ", " ++ text) (argument x (Integer h.0, h.1, h.2))
+
     memory_op : (x : MemoryOp) → IsMemoryOp m f x → memory_op_text m f.locals x ≡ memory_op_text n f.locals x
     memory_op (memory.Alloca held) h = ap (λ (text : Text). codes "alloca " ++ text) (same_type h.0 held h.1.0.0)
+    memory_op (memory.Buffer held count) h = ap₂ (λ a b. codes "alloca " ++ a ++ b) (same_type h.1.0 held h.1.1.0) (counted h.1.0 count h.1.2)
     memory_op (memory.Load loaded place_type place) h = ap (λ (text : Text). codes "load " ++ text) (placed h.0 loaded place_type place h.1.0.0 h.2 h.3)
     memory_op (memory.Store stored x place_type place) h =
         let s = place_shape h.0 stored place_type h.1.0.0 h.3 in
