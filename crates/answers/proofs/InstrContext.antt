@@ -40,6 +40,7 @@ is_collected_type_same m fs = λ along written. may_be_reference (kind_of_same m
 
 memory_moves_by : (m : Module) (fs : List Function) (x : MemoryOp) → memory_moves (with_functions m fs) x ≡ memory_moves m x
 memory_moves_by m fs (memory.Alloca held) = refl
+memory_moves_by m fs (memory.Buffer held count) = refl
 memory_moves_by m fs (memory.Load loaded place_type place) = λ along. is_collected_type_same m fs along loaded
 memory_moves_by m fs (memory.Store stored value place_type place) = λ along. is_collected_type_same m fs along stored
 

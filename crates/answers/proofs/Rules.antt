@@ -7,18 +7,19 @@ use Rattle.block_rules.specs.Floats.{float_conditions, float_kind, is_number_of}
 use Rattle.block_rules.specs.Integers.{after_select, arithmetic_below, below_of, choose_pointer, define_number, known_layout, may_choose, may_compare, may_resize, one_layout, resized_below}
 use Rattle.block_rules.specs.Operands.{constant_fits, is_available, is_based, is_current, is_no_slot, is_null, known_of}
 use Rattle.block_rules.specs.Promises.{keeps_promise, says_what_it_is}
-use Rattle.block_rules.specs.Rules.{after_memory, after_named, after_number, all_come_in, are_cases, cast_conditions, casts_outside, choice_conditions, compares_outside, element_conditions, end_conditions, gives_root, is_case, is_condition, is_datum, is_entry, loads_outside, may_come_in, may_hold, memory_conditions, names_target, number_conditions, phi_conditions, stores_outside}
+use Rattle.block_rules.specs.Rules.{after_memory, after_named, after_number, all_come_in, are_cases, cast_conditions, casts_outside, choice_conditions, compares_outside, element_conditions, end_conditions, gives_root, is_case, is_condition, is_count, is_count_available, is_datum, is_entry, loads_outside, may_come_in, may_hold, memory_conditions, names_target, number_conditions, phi_conditions, stores_outside}
 use Rattle.type_kinds.specs.TypeKinds.{is_bits, is_integer, is_pointer, is_void}
 use Rattle.type_kinds.specs.declared.type_kind.TypeKind.{TypeKind}
 use Rattle.type_kinds.specs.declared.type_kind.TypeKind.TheVariants.{Bits}
 use Rattle.block_rules.specs.declared.rule.Rule.TheVariants.{K1, K10, K11, K12, K14, K19, K2, K3, K4, K5, K6, K8}
 use Rattle.block_rules.specs.declared.instr_context.InstrContext.{InstrContext}
 use Rattle.facts.specs.Facts.{FactSet}
+use Rattle.ir_ast.specs.declared.argument.Argument.{Argument}
 use Rattle.ir_ast.specs.declared.ends.End.{End}
 use Rattle.ir_ast.specs.declared.floats.FloatOp.{FloatOp}
 use Rattle.ir_ast.specs.declared.function.Function.{Function}
 use Rattle.ir_ast.specs.declared.function.LocalSort.{LocalSort}
-use Rattle.ir_ast.specs.declared.function.LocalSort.TheVariants.{Value, Element}
+use Rattle.ir_ast.specs.declared.function.LocalSort.TheVariants.{Value, Slot, Element}
 use Rattle.ir_ast.specs.declared.memory.MemoryOp.{MemoryOp}
 use Rattle.ir_ast.specs.declared.module.Module.{Module}
 use Rattle.ir_ast.specs.declared.numbers.NumberOp.{NumberOp}
@@ -45,6 +46,7 @@ may_hold_same m fs = λ along slots result held. is_integer (kind_of_same m fs a
 is_entry_by : (m : Module) (fs : List Function) (f : Function) (written v : ℕ) (sort : Option LocalSort) → is_entry (with_functions m fs) f written v sort ≡ is_entry m f written v sort
 is_entry_by m fs f written v (Some (Value given)) = refl
 is_entry_by m fs f written v (Some (Element block place)) = λ along. m.wide && has_type_same m fs along f written v
+is_entry_by m fs f written v (Some (Slot held)) = λ along. m.wide && has_type_same m fs along f written v
 is_entry_by m fs f written v _ = refl
 
 may_come_in_by : (m : Module) (fs : List Function) (f : Function) (slots : SlotTable) (written : ℕ) (operand : Operand) → may_come_in (with_functions m fs) f slots written operand ≡ may_come_in m f slots written operand
@@ -131,8 +133,20 @@ number_conditions_by p fs f slots here facts (number.Float x) = λ along. float_
 pub number_conditions_same : (p : LaidOut) (fs : List Function) → number_conditions (laid_with p fs) ≡ number_conditions p
 number_conditions_same p fs = λ along f slots here facts x. number_conditions_by p fs f slots here facts x along
 
+is_count_by : (m : Module) (fs : List Function) (f : Function) (slots : SlotTable) (facts : FactSet) (count : Option Argument) → is_count (with_functions m fs) f slots facts count ≡ is_count m f slots facts count
+is_count_by m fs f slots facts None = refl
+is_count_by m fs f slots facts (Some count) = λ along. is_integer (kind_of_same m fs along count.written) && is_value_same m fs along f slots facts count.written count.operand && is_no_slot slots count.operand
+
+pub is_count_same : (m : Module) (fs : List Function) → is_count (with_functions m fs) ≡ is_count m
+is_count_same m fs = λ along f slots facts count. is_count_by m fs f slots facts count along
+
 memory_conditions_by : (p : LaidOut) (fs : List Function) (f : Function) (slots : SlotTable) (here : InstrContext) (facts : FactSet) (result : Option ℕ) (x : MemoryOp) → memory_conditions (laid_with p fs) f slots here facts result x ≡ memory_conditions p f slots here facts result x
 memory_conditions_by p fs f slots here facts result (memory.Alloca held) = λ along. (K8, may_hold_same p.of_module fs along slots result held) ∷ (K11, here.in_entry) ∷ (K12, here.may_move_references) ∷ []
+memory_conditions_by p fs f slots here facts result (memory.Buffer held count) = λ along. (K1, is_count_available slots facts count)
+    ∷ (K2, is_count_same p.of_module fs along f slots facts count)
+    ∷ (K8, p.of_module.wide)
+    ∷ (K11, here.in_entry)
+    ∷ (K12, here.may_move_references) ∷ []
 memory_conditions_by p fs f slots here facts result (memory.Load loaded place_type place) = λ along. (K1, is_available slots facts place)
     ∷ (K2, (is_typed_same p.of_module fs along f place_type place && may_load_same p fs along slots facts loaded place (place_known_same p.of_module fs along facts place_type place)) || loads_outside_same p.of_module fs along f slots facts loaded place_type place)
     ∷ (K3, is_current facts (place_known_same p.of_module fs along facts place_type place))
@@ -220,6 +234,7 @@ after_number_same m fs = λ along v x facts. after_number_by m fs v x facts alon
 after_memory_by : (p : LaidOut) (fs : List Function) (slots : SlotTable) (result : Option ℕ) (x : MemoryOp) (facts : FactSet) → after_memory (laid_with p fs) slots result x facts ≡ after_memory p slots result x facts
 after_memory_by p fs slots result (memory.Store stored value place_type place) facts = refl
 after_memory_by p fs slots (Some v) (memory.Alloca held) facts = refl
+after_memory_by p fs slots (Some v) (memory.Buffer held count) facts = refl
 after_memory_by p fs slots (Some v) (memory.Load loaded place_type place) facts = λ along. after_load_same p fs along slots v loaded place_type place facts
 after_memory_by p fs slots None _ facts = refl
 

@@ -42,6 +42,7 @@ is_gcroot _ = false
 -- an operation on memory that may be of the head
 abbrev pub is_memory_of_head : Function → SlotTable → MemoryOp → Bool
 is_memory_of_head f slots (memory.Alloca held) = true
+is_memory_of_head f slots (memory.Buffer held count) = true
 is_memory_of_head f slots (memory.Load loaded place_type place) = false
 is_memory_of_head f slots (memory.Store stored value place_type place) = is_given f value && is_some (slot_named slots place)
 
@@ -68,6 +69,7 @@ is_collected_type m written = may_be_reference (kind_of m written)
 -- an operation on memory moves a reference: the value of a load or of a store is one
 abbrev pub memory_moves : Module → MemoryOp → Bool
 memory_moves m (memory.Alloca held) = false
+memory_moves m (memory.Buffer held count) = false
 memory_moves m (memory.Load loaded place_type place) = is_collected_type m loaded
 memory_moves m (memory.Store stored value place_type place) = is_collected_type m stored
 

@@ -1,6 +1,7 @@
 -- The rules: when an instruction is allowed, and what is known after it.
-use Rattle.std.specs.Prelude.{ℕ, ◌==◌, Bool, false, not, ◌&&◌, ◌||◌, List, [], ◌∷◌, length, slice_get, nat_lt, Option, Some, None, is_some}
+use Rattle.std.specs.Prelude.{ℕ, ◌==◌, Bool, true, false, not, ◌&&◌, ◌||◌, List, [], ◌∷◌, length, slice_get, nat_lt, Option, Some, None, is_some}
 use Rattle.std.specs.List.{list_all}
+use Rattle.ir_ast.specs.declared.argument.Argument.{Argument}
 use Rattle.ir_ast.specs.declared.casts.Cast.{Cast}
 use Rattle.ir_ast.specs.declared.choices.Choice.{Choice}
 use Rattle.ir_ast.specs.declared.choices.Incoming.{Incoming}
@@ -11,7 +12,7 @@ use Rattle.ir_ast.specs.declared.ends.End.{End}
 use Rattle.ir_ast.specs.declared.ends.End.TheVariants as end
 use Rattle.ir_ast.specs.declared.function.Function.{Function}
 use Rattle.ir_ast.specs.declared.function.LocalSort.{LocalSort}
-use Rattle.ir_ast.specs.declared.function.LocalSort.TheVariants.{Value, Element as ElementName}
+use Rattle.ir_ast.specs.declared.function.LocalSort.TheVariants.{Value, Slot as SlotName, Element as ElementName}
 use Rattle.ir_ast.specs.declared.instr.Instr.{Instr}
 use Rattle.ir_ast.specs.declared.memory.MemoryOp.{MemoryOp}
 use Rattle.ir_ast.specs.declared.memory.MemoryOp.TheVariants as memory
@@ -27,11 +28,11 @@ use Rattle.outside_names.specs.Operands.{is_outside_operand}
 use Rattle.types.specs.ValueTypes.{target_of, has_type}
 use Rattle.shadow_stack.specs.Slots.{SlotTable, slot_of, is_opaque_address, is_among}
 use Rattle.certs.specs.declared.section.Section.{Section}
-use Rattle.facts.specs.Facts.{FactSet, end_slot}
+use Rattle.facts.specs.Facts.{FactSet, define, end_slot}
 use Rattle.block_rules.specs.declared.rule.Rule.{Rule}
 use Rattle.block_rules.specs.declared.rule.Rule.TheVariants.{K1, K2, K3, K4, K5, K6, K8, K10, K11, K12, K14, K19}
 use Rattle.block_rules.specs.declared.instr_context.InstrContext.{InstrContext}
-use Rattle.block_rules.specs.Operands.{slot_named, known_of, is_available, constant_fits, is_typed, is_value, is_passed, is_outside_value, is_current, is_null, place_known, is_based, is_no_slot}
+use Rattle.block_rules.specs.Operands.{slot_named, known_of, outside_known, is_available, constant_fits, is_typed, is_value, is_passed, is_outside_value, is_current, is_null, place_known, is_based, is_no_slot}
 use Rattle.block_rules.specs.Places.{may_load, may_store, is_one_layout, after_load, after_store}
 use Rattle.block_rules.specs.Signature.{callee_of}
 use Rattle.type_kinds.specs.declared.type_kind.TypeKind.{TypeKind}
@@ -58,10 +59,21 @@ gives_root slots (Some v) = names_root slots (slot_of slots v)
 abbrev pub may_hold : Module → SlotTable → (result : Option ℕ) → (held : ℕ) → Bool
 may_hold m slots result held = is_integer (kind_of m held) || gives_root slots result
 
--- K2: an entry of a phi is a constant of its type, a value to which the text gives that type, with the wide forms the name of a getelementptr, or the name of something outside; a slot is none
+-- K1: how many elements a buffer has is available
+abbrev pub is_count_available : SlotTable → FactSet → Option Argument → Bool
+is_count_available slots facts None = true
+is_count_available slots facts (Some count) = is_available slots facts count.operand
+
+-- K2: how many elements a buffer has is a number
+abbrev pub is_count : Module → Function → SlotTable → FactSet → Option Argument → Bool
+is_count m f slots facts None = true
+is_count m f slots facts (Some count) = is_integer (kind_of m count.written) && is_value m f slots facts count.written count.operand && is_no_slot slots count.operand
+
+-- K2: an entry of a phi is a constant of its type, a value to which the text gives that type, with the wide forms the name of a getelementptr or of a buffer, or the name of something outside; a slot is none
 abbrev pub is_entry : Module → Function → (written v : ℕ) → Option LocalSort → Bool
 is_entry m f written v (Some (Value given)) = given == written
 is_entry m f written v (Some (ElementName block place)) = m.wide && has_type m f written v
+is_entry m f written v (Some (SlotName held)) = m.wide && has_type m f written v
 is_entry m f written v _ = false
 
 -- by the operand
@@ -145,6 +157,12 @@ number_conditions p f slots here facts (number.Float x) = float_conditions p.of_
 abbrev pub memory_conditions : LaidOut → Function → SlotTable → InstrContext → FactSet → (result : Option ℕ) → MemoryOp → List (Rule × Bool)
 memory_conditions p f slots here facts result (memory.Alloca held) =
     (K8, may_hold p.of_module slots result held) ∷ (K11, here.in_entry) ∷ (K12, here.may_move_references) ∷ []
+memory_conditions p f slots here facts result (memory.Buffer held count) =
+    (K1, is_count_available slots facts count)
+    ∷ (K2, is_count p.of_module f slots facts count)
+    ∷ (K8, p.of_module.wide)
+    ∷ (K11, here.in_entry)
+    ∷ (K12, here.may_move_references) ∷ []
 memory_conditions p f slots here facts result (memory.Load loaded place_type place) =
     (K1, is_available slots facts place)
     ∷ (K2, (is_typed p.of_module f place_type place && may_load p slots facts loaded place (place_known p.of_module facts place_type place)) || loads_outside p.of_module f slots facts loaded place_type place)
@@ -262,6 +280,7 @@ after_number m v (number.Float x) facts = define_number v (float_kind m x) None 
 abbrev pub after_memory : LaidOut → SlotTable → (result : Option ℕ) → MemoryOp → FactSet → FactSet
 after_memory p slots result (memory.Store stored value place_type place) facts = after_store (known_of facts value) (slot_named slots place) facts
 after_memory p slots (Some v) (memory.Alloca held) facts = after_alloca (slot_of slots v) facts
+after_memory p slots (Some v) (memory.Buffer held count) facts = define v outside_known facts
 after_memory p slots (Some v) (memory.Load loaded place_type place) facts = after_load p slots v loaded place_type place facts
 after_memory p slots None _ facts = facts
 

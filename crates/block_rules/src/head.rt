@@ -30,7 +30,7 @@ fn is_memory_of_head(context: &RuleContext, op: &MemoryOp) -> bool
     ensures { result ≡ is_memory_of_head context.now.function.now context.now.slots.now op.now }
 {
     match op {
-        MemoryOp::Alloca(_) => true,
+        MemoryOp::Alloca(_) | MemoryOp::Buffer { .. } => true,
         MemoryOp::Load { .. } => false,
         MemoryOp::Store { value, place, .. } => {
             is_given(context.function, value) && slot_named(context.slots, place).is_some()

@@ -56,7 +56,7 @@ fn memory_moves(module: &Module, op: &MemoryOp) -> bool
     ensures { result ≡ memory_moves «module».now op.now }
 {
     match op {
-        MemoryOp::Alloca(_) => false,
+        MemoryOp::Alloca(_) | MemoryOp::Buffer { .. } => false,
         MemoryOp::Load { loaded, .. } => is_collected_type(module, *loaded),
         MemoryOp::Store { stored, .. } => is_collected_type(module, *stored),
     }

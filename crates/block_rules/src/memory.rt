@@ -1,8 +1,8 @@
 //! Slots, and what is read from places and put there.
-ghost use Rattle.std.specs.Prelude.{◌≡◌, ◌&&◌, ◌||◌, None, OnOk};
+ghost use Rattle.std.specs.Prelude.{◌≡◌, ◌&&◌, ◌||◌, ℕ, None, OnOk};
 ghost use Rattle.facts.specs.Facts.{FactSet};
 ghost use Rattle.block_rules.specs.FirstFailing.{first_failing};
-ghost use Rattle.block_rules.specs.Rules.{names_root, gives_root, may_hold, is_datum, loads_outside, stores_outside, memory_conditions, after_memory};
+ghost use Rattle.block_rules.specs.Rules.{names_root, gives_root, may_hold, is_count_available, is_count, is_datum, loads_outside, stores_outside, memory_conditions, after_memory};
 ghost use Rattle.block_rules.specs.Operands.{is_typed, is_value, known_of};
 ghost use Rattle.block_rules.specs.Places.{may_load, may_store, is_one_layout};
 
@@ -13,7 +13,7 @@ use crate::context::RuleContext;
 use crate::instr_context::InstrContext;
 use crate::operands::{
     is_available, is_based, is_current, is_no_slot, is_operand_current, is_outside_value, is_typed,
-    is_value, known_of, place_known, slot_named,
+    is_value, known_of, outside_known, place_known, slot_named,
 };
 use crate::places::{after_load, after_store, is_one_layout, may_load, may_store};
 use crate::rule::Rule;
@@ -58,6 +58,46 @@ fn alloca_refusal(
 {
     first_failing(&[
         (Rule::K8, may_hold(context, defined, held)),
+        (Rule::K11, here.in_entry),
+        (Rule::K12, here.may_move_references),
+    ])
+}
+
+fn is_count_available(context: &RuleContext, facts: &Facts, count: &Option<Argument>) -> bool
+    ensures { result ≡ is_count_available context.now.slots.now facts.now count.now }
+{
+    match count {
+        Some(count) => is_available(context.slots, facts, &count.operand),
+        None => true,
+    }
+}
+
+/// Whether a count of elements is a number.
+fn is_count(context: &RuleContext, facts: &Facts, count: &Option<Argument>) -> bool
+    ensures { result ≡ is_count context.now.program.now.of_module context.now.function.now context.now.slots.now facts.now count.now }
+{
+    match count {
+        Some(count) => {
+            TypeKind::of(context.module(), count.written).is_integer()
+                && is_value(context, facts, count.written, &count.operand)
+                && is_no_slot(context.slots, &count.operand)
+        }
+        None => true,
+    }
+}
+
+fn buffer_refusal(
+    context: &RuleContext,
+    here: InstrContext,
+    facts: &Facts,
+    count: &Option<Argument>,
+) -> Option<Rule>
+    ensures { (held : ℕ) → result ≡ first_failing (memory_conditions context.now.program.now context.now.function.now context.now.slots.now here facts.now None (MemoryOp.Buffer held count.now)) }
+{
+    first_failing(&[
+        (Rule::K1, is_count_available(context, facts, count)),
+        (Rule::K2, is_count(context, facts, count)),
+        (Rule::K8, context.module().wide),
         (Rule::K11, here.in_entry),
         (Rule::K12, here.may_move_references),
     ])
@@ -186,6 +226,7 @@ pub fn memory_refusal(
 {
     match op {
         MemoryOp::Alloca(held) => alloca_refusal(context, here, defined, *held),
+        MemoryOp::Buffer { count, .. } => buffer_refusal(context, here, facts, count),
         MemoryOp::Load {
             loaded,
             place_type,
@@ -227,6 +268,7 @@ pub fn after_memory(
             Some(s) => facts.end_slot(s),
             None => Ok(()),
         },
+        (MemoryOp::Buffer { .. }, Some(v)) => facts.define(v, outside_known()),
         (
             MemoryOp::Load {
                 loaded,

@@ -48,9 +48,10 @@ load_from recorded m locals slots seat instr x = if names_slot slots x.place.ope
 abbrev pub store_into : (recorded : Bool) → Module → (locals : List Text) → SlotTable → Seat → Instr → Storing → Text
 store_into recorded m locals slots seat instr x = if names_slot slots x.place.operand then plain_line recorded m locals instr else store_text recorded m locals seat x
 
--- an operation on memory
+-- an operation on memory; a buffer's line stands as it is, but a text that has one is refused before (`Outside`)
 abbrev pub memory_text : (recorded : Bool) → Module → (locals : List Text) → SlotTable → Seat → Instr → MemoryOp → Text
 memory_text recorded m locals slots seat instr (memory.Alloca held) = plain_line recorded m locals instr ++ first_line m locals held instr.result
+memory_text recorded m locals slots seat instr (memory.Buffer held count) = plain_line recorded m locals instr
 memory_text recorded m locals slots seat instr (memory.Load loaded place_type place) =
     load_from recorded m locals slots seat instr (record { result = instr.result; loaded = loaded; place = typed place_type place })
 memory_text recorded m locals slots seat instr (memory.Store stored value place_type place) =

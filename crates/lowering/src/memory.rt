@@ -119,6 +119,7 @@ pub(crate) fn put_memory(
             put_plain(alloc, out, scope, instr)?;
             put_first(alloc, out, scope, held, instr.result)
         }
+        MemoryOp::Buffer { .. } => put_plain(alloc, out, scope, instr),
         MemoryOp::Load {
             loaded,
             place_type,

@@ -495,9 +495,15 @@ choice_action m f slots registers x =
 abbrev pub stores_outside : Module → Function → SlotTable → List Value → (stored : ℕ) → Operand → Bool
 stores_outside m f slots registers stored v = is_usable m f slots registers stored v && is_number (value_of m registers stored v)
 
+-- how many elements a buffer has is a number
+abbrev pub is_count : Module → Function → SlotTable → List Value → Option Argument → Bool
+is_count m f slots registers None = true
+is_count m f slots registers (Some count) = is_usable_number m f slots registers count.written count.operand
+
 -- an operation on memory; what is read outside is from outside, and what is stored there changes nothing here
 abbrev pub memory_action : LaidOut → Function → SlotTable → List Value → MemoryOp → Action
 memory_action p f slots registers (memory.Alloca held) = Local
+memory_action p f slots registers (memory.Buffer held count) = only_if (p.of_module.wide && is_count p.of_module f slots registers count) Local
 memory_action p f slots registers (memory.Load loaded place_type place) =
     if is_usable_outside p.of_module f slots registers place_type place then asked_given (slice_get p.of_module.types loaded)
     else load_action p slots loaded (slot_at_place p.of_module f slots place_type place) (address_at_place p.of_module f slots registers place_type place)

@@ -37,7 +37,7 @@ use Rattle.machine.specs.declared.action.Action.TheVariants.{Local, End}
 use Rattle.machine.specs.declared.answer.Answer.{Answer}
 use Rattle.machine.specs.declared.answer.Answer.TheVariants as answer
 use Rattle.machine.specs.declared.frame.Frame.{Frame}
-use Rattle.machine.specs.Kinds.{is_integer, is_number, bits_at, number_in, value_of, is_usable_outside, slot_at_place, address_at_place}
+use Rattle.machine.specs.Kinds.{is_integer, is_number, bits_at, number_in, outside_address, value_of, is_usable_outside, slot_at_place, address_at_place}
 use Rattle.machine.specs.IntegerFunctions.{function_value}
 use Rattle.machine.specs.Integers.{computed, resized, compares, compares_equal, truth}
 use Rattle.machine.specs.Elements.{element_offset, element_place, address_of, global_kind, read_value}
@@ -249,6 +249,7 @@ load_value p f slots frame place_type place given =
 -- the frame after an operation on memory
 abbrev pub after_memory : LaidOut → Function → SlotTable → (name : Option ℕ) → MemoryOp → Answer → Frame → Frame
 after_memory p f slots name (memory.Alloca held) given frame = frame
+after_memory p f slots name (memory.Buffer held count) given frame = set_register name outside_address frame
 after_memory p f slots name (memory.Load loaded place_type place) given frame = set_register name (load_value p f slots frame place_type place given) frame
 after_memory p f slots name (memory.Store stored v place_type place) given frame =
     set_slot (slot_at_place p.of_module f slots place_type place) (value_of p.of_module frame.registers stored v) frame

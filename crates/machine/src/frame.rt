@@ -16,7 +16,7 @@ use crate::jumps::{phi_value, phis_of};
 use crate::kinds::is_integer;
 use crate::memory::{loaded_from, read_at};
 use crate::numbers::number_value;
-use crate::operands::{address_at_place, operand_slot, slot_at_place, value_of};
+use crate::operands::{address_at_place, operand_slot, outside_address, slot_at_place, value_of};
 use crate::outside::is_usable_outside;
 use crate::value::Value;
 use ir_ast::{
@@ -143,6 +143,7 @@ impl Frame {
         let context = self.context(program, function, slots);
         match op {
             MemoryOp::Alloca(_) => {}
+            MemoryOp::Buffer { .. } => self.set_register(name, outside_address()),
             MemoryOp::Load {
                 place_type,
                 place,

@@ -2,7 +2,7 @@
 ghost use Rattle.std.specs.Prelude.{◌≡◌};
 ghost use Rattle.machine.specs.Elements.{is_read_as, takes_value};
 ghost use Rattle.machine.specs.Kinds.{slot_at_place, address_at_place, is_usable, value_of};
-ghost use Rattle.machine.specs.Asks.{is_slot_type, is_held_as, is_loaded_as, read_action, load_action, plain_action, barrier_action, store_action, memory_action};
+ghost use Rattle.machine.specs.Asks.{is_slot_type, is_held_as, is_loaded_as, read_action, load_action, plain_action, barrier_action, store_action, is_count, memory_action};
 ghost use Rattle.machine.specs.Machine.{slot_value, read_at, loaded_from};
 
 use crate::action::{Action, only_if};
@@ -13,10 +13,10 @@ use crate::elements::{
 use crate::foreign::asked_given;
 use crate::frame_context::FrameContext;
 use crate::kinds::{fits_layout_of, is_byte_pointer};
-use crate::operands::{address_at_place, is_usable, slot_at_place, value_of};
+use crate::operands::{address_at_place, is_usable, is_usable_number, slot_at_place, value_of};
 use crate::outside::{is_usable_outside, stores_outside};
 use crate::value::{Pointee, Value};
-use ir_ast::{MemoryOp, Module, Operand, TypeId};
+use ir_ast::{Argument, MemoryOp, Module, Operand, TypeId};
 use layout::Program;
 use pools::LayoutId;
 use shadow_stack::SlotId;
@@ -221,12 +221,28 @@ fn store_action(
     }
 }
 
+/// Whether a count of elements is a number.
+fn is_count(context: &FrameContext<'_>, count: &Option<Argument>) -> bool
+    ensures { result ≡ is_count context.now.program.now.of_module context.now.function.now context.now.slots.now context.now.registers.now count.now }
+{
+    match count {
+        Some(count) => is_usable_number(context, count.written, &count.operand),
+        None => true,
+    }
+}
+
 /// What an operation on memory asks for. What is read outside is from outside, and what is stored there changes nothing here.
 pub fn memory_action(context: &FrameContext<'_>, op: &MemoryOp) -> Action
     ensures { result ≡ memory_action context.now.program.now context.now.function.now context.now.slots.now context.now.registers.now op.now }
 {
     match op {
         MemoryOp::Alloca(_) => Action::Local,
+        MemoryOp::Buffer { count, .. } => {
+            only_if(
+                context.of_module().wide && is_count(context, count),
+                Action::Local,
+            )
+        }
         MemoryOp::Load {
             loaded,
             place_type,

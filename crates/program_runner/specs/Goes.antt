@@ -34,10 +34,10 @@ use Rattle.machine.specs.declared.value.Value.TheVariants as value
 use Rattle.machine.specs.Asks.{read_action, load_action, gcread_action, alloc_of, alloc_action, defined_action, asked_given, asked_outside, outside_action, float_action, compares_outside, gives_number, number_asked, number_action, call_action, declare_of, function_numbered, number_called, target_at, edge_of, memory_action, op_action}
 use Rattle.machine.specs.Elements.{element_offset}
 use Rattle.machine.specs.Jumps.{entry_for, entry_value, phi_value, phis_of, put_register, put_phis}
-use Rattle.machine.specs.Kinds.{is_integer, is_void, is_pointer_type, bits_of, register_at, bits_at, value_of, is_usable_outside, slot_at_place, address_at_place}
+use Rattle.machine.specs.Kinds.{is_integer, is_void, is_pointer_type, bits_of, register_at, bits_at, outside_address, value_of, is_usable_outside, slot_at_place, address_at_place}
 use Rattle.machine.specs.Machine.{State, entry_frame, has_room, with_room, function_called, instr_at, end_at, step_action, frame_action, action, slot_value, set_register, set_slot, cast_from, read_at, loaded_from, alloc_value, layout_of_call, place_of_call, integers_value, given_value, after_call, comparison_value, number_value, choice_value, element_address, load_value, after_memory, after_op, go_on, enter_block, values_of, called_with, frames_called, result_of, frames_returned, after_instr, after_end, after_last, after_step, after_frame, after_answer}
 use Rattle.program_runner.specs.Kinds.{FitsHeap, FrameFits, FramesFit, IsHeapWith}
-use Rattle.program_runner.specs.Values.{PlaceFits, computed_below, function_value_below, resized_below, compared_fits, selected_fits, one_more_fits, value_fits, address_from_fits}
+use Rattle.program_runner.specs.Values.{PlaceFits, computed_below, function_value_below, resized_below, compared_fits, selected_fits, one_more_fits, outside_address_fits, value_fits, address_from_fits}
 use Rattle.program_runner.specs.Given.{GivesNothing, FitsAsked, nothing_at, nothing_claimed, nothing_given, only_gives, read_fits}
 use Rattle.program_runner.specs.Asks.{operand_fits, place_fits}
 use Rattle.program_runner.specs.Begun.{AllFit, entry_fits}
@@ -247,6 +247,7 @@ module _ (s : Setup) where
       -- the frame after an operation on memory
       memory_fits : (name : Option ℕ) (x : MemoryOp) (given : Answer) → FitsAsked s (memory_action p f slots frame.registers x) given → FrameFits s (after_memory p f slots name x given frame)
       memory_fits name (memory.Alloca held) given h = fits
+      memory_fits name (memory.Buffer held count) given h = register_fits name outside_address frame (outside_address_fits s) fits
       memory_fits name (memory.Load loaded place_type place) given h =
           register_fits name (load_value p f slots frame place_type place given) frame (loaded_fits loaded place_type place given h) fits
       memory_fits name (memory.Store written v place_type place) given h =

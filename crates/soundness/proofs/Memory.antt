@@ -2,6 +2,7 @@
 use Rattle.std.proofs.Common.{◌≡◌, ℕ, List, refl, sym, ap, ◌∙◌, subst, true, false, Option, Some, None, Bool, inl, inr, slice_get}
 use Rattle.std.specs.Prelude.{◌⊎◌, ◌&&◌, ◌||◌, not, if◌then◌else◌}
 use Rattle.lemmas.specs.Bools.{and_parts, and_true, or_parts, not_true}
+use Rattle.ir_ast.specs.declared.argument.Argument.{Argument}
 use Rattle.ir_ast.specs.declared.function.Function.{Function}
 use Rattle.ir_ast.specs.declared.memory.MemoryOp.{MemoryOp}
 use Rattle.ir_ast.specs.declared.memory.MemoryOp.TheVariants as memory
@@ -23,7 +24,7 @@ use Rattle.block_rules.specs.Places as q
 use Rattle.block_rules.specs.FirstFailing.{first_failing}
 use Rattle.block_rules.specs.Barriers.{needs_no_barrier}
 use Rattle.block_rules.specs.Casts as c
-use Rattle.block_rules.specs.Rules.{is_datum, loads_outside, stores_outside, memory_conditions, after_memory}
+use Rattle.block_rules.specs.Rules.{is_count_available, is_count, is_datum, loads_outside, stores_outside, memory_conditions, after_memory}
 use Rattle.type_kinds.specs.TypeKinds.{kind_of, is_integer}
 use Rattle.machine.specs.declared.action.Action.TheVariants.{Local}
 use Rattle.machine.specs.declared.value.Value.{Value}
@@ -35,17 +36,18 @@ use Rattle.machine.specs.Log.{Log, IsFresh}
 use Rattle.soundness.proofs.Values.{of_value}
 use Rattle.soundness.specs.Meaning.{Cells, Guarded, Holds}
 use Rattle.soundness.specs.Goes.{Goes, HaveMembers}
-use Rattle.soundness.proofs.Outside.{IsOutside, outside_is, usable_outside, outside_usable, inside_slot, given_goes}
+use Rattle.soundness.proofs.Outside.{IsOutside, address_number, outside_is, usable_outside, outside_usable, inside_slot, given_goes}
+use Rattle.soundness.proofs.Change.{define_plain}
 use Rattle.soundness.proofs.PhiFacts.{drop_of_keeps}
-use Rattle.soundness.proofs.Steps.{OpGoes, goes_local, none_of, alloca_goes, kind_bits, integer_is, usable}
+use Rattle.soundness.proofs.Steps.{OpGoes, goes_local, none_of, alloca_goes, kind_bits, integer_is, number_usable, usable}
 use Rattle.soundness.proofs.Touches.{IsPlace, no_slot_at}
 use Rattle.soundness.proofs.RulesHold.{rules_hold}
-use Rattle.block_rules.specs.declared.rule.Rule.TheVariants.{K1, K2, K3, K4, K6, K10, K19}
+use Rattle.block_rules.specs.declared.rule.Rule.TheVariants.{K1, K2, K3, K4, K6, K8, K10, K19}
 use Rattle.block_rules.specs.Operands.{slot_named}
 use Rattle.soundness.proofs.Moves.{slot_load_goes, slot_store_goes}
 use Rattle.soundness.proofs.WordReads.{load_goes}
 use Rattle.soundness.proofs.WordStores.{IsStored, store_goes}
-use Rattle.soundness.proofs.Members.{forget_members, stored_members, alloca_members, load_place_members}
+use Rattle.soundness.proofs.Members.{define_members, forget_members, stored_members, alloca_members, load_place_members}
 
 module _ (heap : Setup) (p : LaidOut) (certs : List Section) (reaches : Bool) (f : Function) (table : SlotTable) (guarded : Guarded) (log : Log) (guards : (cell : ℕ) → guarded cell → IsFresh log cell) (fits : IsHeapFor heap p) (here : InstrContext) (cells : Cells) (facts : FactSet) (frame : Frame)
     (h : Holds heap p table guarded log cells facts frame.registers frame.slots) (members : HaveMembers facts) where
@@ -212,9 +214,30 @@ module _ (heap : Setup) (p : LaidOut) (certs : List Section) (reaches : Bool) (f
         by v (operand.CastGlobal own symbol other) k1 k2 may k3 some k4 k6 k19 =
             stores v (operand.CastGlobal own symbol other) (record { there = k1; typed = k2; current = k3; based = k4; casts = k19; varies = refl; no_slot = refl }) may k6
 
+  -- the count of a buffer's elements is a number to the machine
+  counted : (count : Option Argument) → is_count_available table facts count ≡ true → is_count p.of_module f table facts count ≡ true → a.is_count p.of_module f table frame.registers count ≡ true
+  counted None k1 k2 = refl
+  counted (Some x) k1 k2 =
+      let b = and_parts (is_integer (kind_of p.of_module x.written) && o.is_value p.of_module f table facts x.written x.operand) (o.is_no_slot table x.operand) k2 in
+      let c = and_parts (is_integer (kind_of p.of_module x.written)) (o.is_value p.of_module f table facts x.written x.operand) b.0 in
+      let bits = kind_bits heap p certs reaches f table guarded log cells facts frame h (kind_of p.of_module x.written) c.0 in
+      number_usable heap p certs reaches f table guarded log cells facts frame h x.written bits.0 x.operand bits.1 k1 (of_value p.of_module f table facts x.written x.operand c.1) (none_of (o.slot_named table x.operand) b.1)
+
+  -- a buffer, whose address is one outside
+  buffer_goes : (result : Option ℕ) (held : ℕ) (count : Option Argument) → first_failing (memory_conditions p f table here facts result (memory.Buffer held count)) ≡ None → OpGoes heap p certs reaches f table guarded log facts frame result (op.Memory (memory.Buffer held count))
+  buffer_goes result held count e =
+      let all = rules_hold (memory_conditions p f table here facts result (memory.Buffer held count)) e in
+      goes_local heap p table frame.slots reaches guarded log _ _ _
+      (ap (λ b. a.only_if b Local) (and_true p.of_module.wide (a.is_count p.of_module f table frame.registers count) (all K8) (counted count (all K1) (all K2))))
+      (kept result) where
+        kept : (result : Option ℕ) → (more : Cells) × Holds heap p table guarded log more (after_memory p table result (memory.Buffer held count) facts) (mc.set_register result k.outside_address frame).registers (mc.set_register result k.outside_address frame).slots
+        kept None = (cells, h)
+        kept (Some v) = (cells, define_plain heap p table guarded log cells facts frame.registers frame.slots h v (Number 64 None) k.outside_address (λ c l s e. cc) address_number)
+
   -- an operation on memory whose conditions hold goes
   pub memory_goes : (result : Option ℕ) (x : MemoryOp) → first_failing (memory_conditions p f table here facts result x) ≡ None → OpGoes heap p certs reaches f table guarded log facts frame result (op.Memory x)
   memory_goes result (memory.Alloca held) e = alloca_goes heap p certs reaches f table guarded log cells facts frame h result held
+  memory_goes result (memory.Buffer held count) e = buffer_goes result held count e
   memory_goes result (memory.Load loaded place_type place) e = load_by result loaded place_type place e
   memory_goes result (memory.Store stored x place_type place) e = store_by result stored x place_type place e
 
@@ -225,6 +248,8 @@ module _ (p : LaidOut) (table : SlotTable) (facts : FactSet) (members : HaveMemb
   pub memory_members : (result : Option ℕ) (x : MemoryOp) → HaveMembers (after_memory p table result x facts)
   memory_members result (memory.Store stored x place_type place) = stored_members facts members x (slot_named table place)
   memory_members None (memory.Alloca held) = members
+  memory_members None (memory.Buffer held count) = members
   memory_members None (memory.Load loaded place_type place) = members
   memory_members (Some v) (memory.Alloca held) = alloca_members facts members (slot_of table v)
+  memory_members (Some v) (memory.Buffer held count) = define_members v o.outside_known facts members
   memory_members (Some v) (memory.Load loaded place_type place) = load_place_members facts members p table v loaded (o.place_known p.of_module facts place_type place) (slot_named table place)

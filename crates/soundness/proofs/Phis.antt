@@ -41,14 +41,14 @@ scalar_kind Address e = absurd cc
 scalar_kind Other e = absurd cc
 
 module _ (m : Module) (f : Function) (table : SlotTable) where
-  -- a name that may come in has the written type: a value, or where the text has the wide forms an address
+  -- a name that may come in has the written type: a value, or where the text has the wide forms an address, or the name of a buffer
   value_typed : (written v : ℕ) → is_entry m f written v (slice_get f.sorts v) ≡ true → has_type m f written v ≡ true
   value_typed written v e = by (slice_get f.sorts v) refl e where
     by : (given : Option LocalSort) → slice_get f.sorts v ≡ given → is_entry m f written v given ≡ true → is_value_of m f written given ≡ true
     by None is e = absurd cc
     by (Some sort.Unknown) is e = absurd cc
     by (Some (sort.Value type)) is e = e
-    by (Some (sort.Slot held)) is e = absurd cc
+    by (Some (sort.Slot held)) is e = ap (is_value_of m f written) (sym is) ∙ (and_parts m.wide (has_type m f written v) e).1
     by (Some (sort.Element block place)) is e = ap (is_value_of m f written) (sym is) ∙ (and_parts m.wide (has_type m f written v) e).1
     by (Some (sort.Block block)) is e = absurd cc
 

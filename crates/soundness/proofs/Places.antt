@@ -145,6 +145,7 @@ module _ (p : LaidOut) (f : Function) (table : SlotTable) (names : NamesRoots p.
 
   memory_place : (name : Option ℕ) (x : MemoryOp) (given : Answer) (frame : Frame) → SamePlace p.of_module table frame (mc.after_memory p f table name x given frame)
   memory_place name (memory.Alloca held) given frame = same_place frame
+  memory_place name (memory.Buffer held count) given frame = register_place name _ frame
   memory_place name (memory.Load loaded place_type place) given frame = register_place name _ frame
   memory_place name (memory.Store stored x place_type place) given frame = slot_place _ _ frame (place_root place_type place)
 
