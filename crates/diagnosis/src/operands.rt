@@ -47,6 +47,10 @@ fn of_number(alloc: Global, op: &NumberOp) -> Result<Vec<Operand>, AllocError> {
 fn of_memory(alloc: Global, op: &MemoryOp) -> Result<Vec<Operand>, AllocError> {
     match op {
         MemoryOp::Alloca(_) => Ok(Vec::new(alloc)),
+        MemoryOp::Buffer { count, .. } => match count {
+            Some(count) => Ok(vec![in alloc; count.operand]?),
+            None => Ok(Vec::new(alloc)),
+        },
         MemoryOp::Load { place, .. } => Ok(vec![in alloc; *place]?),
         MemoryOp::Store { value, place, .. } => Ok(vec![in alloc; *value, *place]?),
     }

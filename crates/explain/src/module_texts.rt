@@ -196,7 +196,11 @@ pub(crate) const L7: &str = "\
 L7  Only the forms of docs/TEXT.md are read.
 
 The word at which the form begins is printed after the place. docs/TEXT.md lists
-these forms. In the example a shift by a constant is written as a product.
+these forms. In the example a shift by a constant is written as a product. `dgc
+lower` and `dgc migrate` refuse with L7 also what `--forms wide` reads and does
+not keep, as data. `dgc lower` prints a function's name alone after L7: that of
+one that is only declared and gives a pointer, or else of one that has a buffer,
+as `alloca [64 x i8]`.
 
 Why: The rules and the safety theorem speak of the forms that are read. Of
 another one nothing is proved.
@@ -221,7 +225,7 @@ Accepted, with the same certificate: `dgc check` prints `yes 1`.
       ret i64 %v
     }
 
-See also: L3 (other tokens), docs/TEXT.md (\"What is left out\")
+See also: L3 (other tokens), docs/TEXT.md (\"What is left out\"), docs/LOWERING.md
 ";
 
 pub(crate) const L8: &str = "\

@@ -50,13 +50,13 @@ a constant that means a layout: the struct at this place of the text, from 0, or
 where the certificate has lines `number` the layout of its line. An address is
 allowed only as the place of a load, a store, gcread or gcwrite, or as the
 operand of getelementptr or bitcast; with `--forms wide` also as an entry of a
-phi, of which nothing is known then. A global is the address of its word, so its
-value has to be loaded. With `--forms wide` a pointer may be an address outside
-of the module. Numbers and addresses outside are loaded and stored there, and no
-reference is, null neither. Such an address is compared with another one or with
-null, chosen with another one, passed on and returned, and it is the base of a
-getelementptr. No cell, no global and no slot takes it. A function outside takes
-it, numbers and null, and nothing else.
+phi, of which nothing is known then. The count of a buffer is a number. A global
+is the address of its word, so its value has to be loaded. With `--forms wide` a
+pointer may be an address outside of the module. Numbers and addresses outside
+are loaded and stored there, and no reference is, null neither. Such an address
+is compared with another one or with null, chosen with another one, passed on
+and returned, and it is the base of a getelementptr. No cell, no global and no
+slot takes it. A function outside takes it, numbers and null, and nothing else.
 
 Why: What the collector follows as a reference has to be one, and a cell's words
 have to be those of its layout. An address is no reference that could be kept:
@@ -336,9 +336,10 @@ See also: K6 (where a barrier is needed)
 pub(crate) const K8: &str = "\
 K8  An alloca holds a number, or is a root slot.
 
-With typed pointers slots of `i8*` are refused too: the text does not say the
-layout of what they hold. A slot is refused at its alloca, also where a load
-before it names it.
+With `--forms wide` it may make a buffer: of an array, of a struct, or with a
+count. The address of a buffer is one outside of the module. With typed pointers
+slots of `i8*` are refused too: the text does not say the layout of what they
+hold. A slot is refused at its alloca, also where a load before it names it.
 
 Why: A slot that no gcroot names is not seen by the collector. What it holds
 could be freed.
@@ -385,8 +386,8 @@ pub(crate) const K9: &str = "\
 K9  A gcroot is in the head of the entry block, names a slot of references that
     no gcroot named before, and its metadata is null.
 
-The head is the front of the block that has only allocas, bitcasts of slots,
-gcroots, and stores of constants and parameters into slots.
+The head is the front of the block that has only allocas, also of buffers,
+bitcasts of slots, gcroots, and stores of constants and parameters into slots.
 
 Why: Each slot is a root before anything happens that the collector sees, and
 the roots of a frame are the same all along.

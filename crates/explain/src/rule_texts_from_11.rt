@@ -3,6 +3,9 @@
 pub(crate) const K11: &str = "\
 K11  Each alloca is in the entry block.
 
+So is that of a buffer, with `--forms wide`: what its name means is made once
+for each frame.
+
 Why: The slots of a frame are fixed when the frame is made, so the collector
 finds the same ones at each safepoint.
 

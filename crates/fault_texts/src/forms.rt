@@ -207,13 +207,15 @@ pub fn cert_form_of(word: &[u8]) -> &'static str {
         b"global" => "global @g ref M",
         b"root" => "root @f %s ref M",
         b"function" => "function @f may, or function @f none",
-        b"param" => "param %x [ref L] [nonnull] [below N]",
-        b"result" => "result [ref L] [nonnull] [below N]",
+        b"param" =>
+            "param %x [ref L] [nonnull] [below N], or with `--forms wide` param %x i64 for an address outside of the module",
+        b"result" =>
+            "result [ref L] [nonnull] [below N], or with `--forms wide` result i64 for an address outside of the module",
         b"block" => "block %b",
         b"slot" => "slot %s [nonnull] [holds %x]",
         b"end" => "end, after the last block of a section",
         [b'%', ..] => {
-            "%v iN [below N], %v ref L [nonnull] [stale | fresh] [same %w], %v addr %x WORDS, or %v addr @g"
+            "%v iN [below N], %v ref L [nonnull] [stale | fresh] [same %w], %v addr %x WORDS, %v addr @g, or with `--forms wide` %p i64 for an address outside of the module"
         }
         _ => "",
     }

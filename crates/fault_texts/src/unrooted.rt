@@ -1,7 +1,7 @@
 //! C3: a slot that a certificate names as a root slot, and that no gcroot names.
 use crate::cert_site::{CertSite, function_named, local_named};
 use crate::faults::put_told;
-use ir_ast::{Function, LocalSort, Module, Runtime, ValueId};
+use ir_ast::{Function, Instr, LocalSort, MemoryOp, Module, Op, Runtime, ValueId};
 use messages::{Message, Part, Pen, Slot, put_root_lines, put_wanted_declare};
 use std::alloc::AllocError;
 
@@ -36,6 +36,33 @@ fn put_rooted<'a>(
     put_wanted_declare(out, of_module, &Runtime::GcRoot)
 }
 
+/// Whether an operation makes a slot. One that makes a buffer does not.
+fn is_alloca(op: &Op) -> bool {
+    match op {
+        Op::Memory(memory) => matches!(memory, MemoryOp::Alloca(_)),
+        _ => false,
+    }
+}
+
+/// Whether an instruction is the alloca of a slot that has this name.
+fn is_slot_of(instr: &Instr, name: ValueId) -> bool {
+    match instr.result {
+        Some(value) => value == name && is_alloca(&instr.op),
+        None => false,
+    }
+}
+
+fn makes_slot(function: &Function, name: ValueId) -> bool {
+    for block in function.blocks.as_slice() {
+        for instr in block.body.as_slice() {
+            if is_slot_of(instr, name) {
+                return true;
+            }
+        }
+    }
+    false
+}
+
 /// What makes the slot a root that a certificate names at a position. Returns whether it names one there.
 pub fn put_unrooted<'a>(
     pen: Pen,
@@ -51,6 +78,9 @@ pub fn put_unrooted<'a>(
     let Some((slot, LocalSort::Slot(_))) = local_named(pen.alloc, function, name)? else {
         return Ok(false);
     };
+    if !makes_slot(function, slot) {
+        return Ok(false);
+    }
     put_rooted(pen, out, of_module, function, slot);
     Ok(true)
 }

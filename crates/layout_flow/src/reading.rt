@@ -151,6 +151,13 @@ impl<'a> Reading<'a> {
                 }
                 Ok(())
             }
+            MemoryOp::Buffer { .. } => match defined {
+                Some(value) => {
+                    let value = self.number(value);
+                    self.evidence.add_outside(value)
+                }
+                None => Ok(()),
+            },
             MemoryOp::Load {
                 loaded,
                 place_type,

@@ -391,8 +391,8 @@ fn of_rule(rule: Rule) -> Page {
             "",
         ),
         Rule::K11 => mended(
-            "{it} is a slot outside the entry block",
-            "write the alloca in the entry block: there is one slot for all turns of a loop",
+            "{it} is made by an alloca outside the entry block",
+            "write the alloca in the entry block: what it makes is there once, for all turns of a loop",
         ),
         rule => of_function(rule),
     }

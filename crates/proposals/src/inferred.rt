@@ -55,24 +55,17 @@ impl InferredPromise {
                 below,
                 below_shown(shown),
             )),
-            InferredPromise::Reference { nonnull } => InferredPromise::Reference {
-                nonnull: nonnull && is_nonnull(shown),
-            },
-            InferredPromise::Outside => match shown {
-                Shown::Outside => InferredPromise::Outside,
-                _ => InferredPromise::Nothing,
-            },
+            InferredPromise::Reference { nonnull } => weakened_reference(nonnull, shown),
+            InferredPromise::Outside => weakened_outside(shown),
             InferredPromise::AnyReference { layout, nonnull } => {
-                if is_other(layout, shown) {
-                    InferredPromise::Nothing
-                } else {
-                    InferredPromise::AnyReference {
-                        layout,
-                        nonnull: nonnull && is_nonnull(shown),
-                    }
-                }
+                weakened_any(layout, nonnull, shown)
             }
         }
+    }
+
+    /// Whether an address outside is promised.
+    pub fn is_outside(self) -> bool {
+        matches!(self, InferredPromise::Outside)
     }
 
     /// It as a certificate writes it.
@@ -115,6 +108,41 @@ impl InferredPromise {
             InferredPromise::Number(below) => below,
             _ => None,
         }
+    }
+}
+
+/// What is left of the promise of a reference whose type says its layout. Where an address outside is known, no other promise is kept.
+fn weakened_reference(nonnull: bool, shown: Shown) -> InferredPromise {
+    match shown {
+        Shown::Outside => InferredPromise::Outside,
+        shown => InferredPromise::Reference {
+            nonnull: nonnull && is_nonnull(shown),
+        },
+    }
+}
+
+/// The same of a reference whose type says none.
+fn weakened_any(layout: LayoutId, nonnull: bool, shown: Shown) -> InferredPromise {
+    match shown {
+        Shown::Outside => InferredPromise::Outside,
+        shown => {
+            if is_other(layout, shown) {
+                InferredPromise::Nothing
+            } else {
+                InferredPromise::AnyReference {
+                    layout,
+                    nonnull: nonnull && is_nonnull(shown),
+                }
+            }
+        }
+    }
+}
+
+/// What is left of the promise of an address outside. What was known to be a reference may turn out to be one too.
+fn weakened_outside(shown: Shown) -> InferredPromise {
+    match shown {
+        Shown::Outside | Shown::Cell { .. } => InferredPromise::Outside,
+        _ => InferredPromise::Nothing,
     }
 }
 

@@ -13,6 +13,9 @@ use layout::Program;
 use layout_flow::LayoutFlow;
 use std::alloc::{AllocError, Global};
 
+/// How often certificates are proposed anew at most.
+const ROUND_LIMIT: u8 = 8;
+
 /// What all walks look at.
 #[derive(Clone, Copy)]
 struct ModuleContext<'a> {
@@ -53,9 +56,31 @@ fn propose_with(
     boldness: Boldness,
 ) -> Result<Certs, AllocError> {
     let mut summaries = Summaries::of(alloc, program, graph, layouts, boldness)?;
-    let certs = propose_from(alloc, program, graph, layouts, &mut summaries);
+    let certs = propose_in_rounds(alloc, program, graph, layouts, &mut summaries);
     drop(summaries);
     certs
+}
+
+/// Proposes anew as long as a reference turns out to be an address outside, but not too often.
+fn propose_in_rounds(
+    alloc: Global,
+    program: &Program,
+    graph: &CallGraph,
+    layouts: &LayoutFlow,
+    summaries: &mut Summaries,
+) -> Result<Certs, AllocError> {
+    for _ in 0..ROUND_LIMIT {
+        let certs = propose_from(alloc, program, graph, layouts, summaries)?;
+        match summaries.begin_anew(alloc, graph) {
+            Ok(false) => return Ok(certs),
+            Ok(true) => drop(certs),
+            Err(refused) => {
+                drop(certs);
+                return Err(refused);
+            }
+        }
+    }
+    propose_from(alloc, program, graph, layouts, summaries)
 }
 
 fn propose_from(

@@ -132,6 +132,10 @@ impl<'a> Scan<'a> {
     fn memory(&mut self, op: &MemoryOp) -> Result<(), AllocError> {
         match op {
             MemoryOp::Alloca(_) => Ok(()),
+            MemoryOp::Buffer { count, .. } => match count {
+                Some(count) => self.operand(&count.operand),
+                None => Ok(()),
+            },
             MemoryOp::Load { place, .. } => match self.slot_at(place) {
                 Some(slot) => self.name(self.number_of(slot)),
                 None => self.operand(place),

@@ -36,6 +36,11 @@ pub struct Summaries {
     queue: Vec<u32>,
     waiting: Vec<bool>,
     walks: Vec<u8>,
+    /// What was promised at first.
+    first_parameters: Vec<InferredPromise>,
+    first_results: Vec<InferredPromise>,
+    /// Whether a reference turned out to be an address outside.
+    turned: bool,
 }
 
 impl Summaries {
@@ -55,6 +60,9 @@ impl Summaries {
             queue: Vec::new(alloc),
             waiting: Vec::new(alloc),
             walks: Vec::new(alloc),
+            first_parameters: Vec::new(alloc),
+            first_results: Vec::new(alloc),
+            turned: false,
         };
         match summaries.fill(alloc, program, graph, layouts, boldness) {
             Ok(()) => Ok(summaries),
@@ -87,7 +95,27 @@ impl Summaries {
         if boldness == Boldness::Bounded {
             self.ask_bounds(alloc, program)?;
         }
+        self.first_parameters = Vec::from_slice(alloc, &self.parameters)?;
+        self.first_results = Vec::from_slice(alloc, &self.results)?;
         Ok(())
+    }
+
+    /// Begins anew, if a reference turned out to be an address outside: what else was found was found of that reference. What is known of
+    /// addresses outside is kept. Returns whether it does.
+    pub fn begin_anew(&mut self, alloc: Global, graph: &CallGraph) -> Result<bool, AllocError> {
+        if !self.turned {
+            return Ok(false);
+        }
+        self.turned = false;
+        let count = self.waiting.len();
+        self.queue = callees_first(alloc, graph, count)?;
+        for at in 0..count {
+            put(&mut self.waiting, at, true);
+            put(&mut self.walks, at, 0);
+        }
+        take_back(&mut self.parameters, &self.first_parameters);
+        take_back(&mut self.results, &self.first_results);
+        Ok(true)
     }
 
     /// The mark of a function.
@@ -145,9 +173,17 @@ impl Summaries {
         let weakened = inferred.weakened(shown);
         if weakened != inferred {
             put(&mut self.parameters, first.saturating_add(place), weakened);
+            self.turn(weakened);
             self.wake(func.number())?;
         }
         Ok(())
+    }
+
+    /// A promise became this one.
+    fn turn(&mut self, weakened: InferredPromise) {
+        if weakened.is_outside() {
+            self.turned = true;
+        }
     }
 
     /// This is known of the operand of a return.
@@ -161,6 +197,7 @@ impl Summaries {
         let weakened = inferred.weakened(shown);
         if weakened != inferred {
             put(&mut self.results, func.number() as usize, weakened);
+            self.turn(weakened);
             for caller in graph.callers.group(func.number() as usize) {
                 self.wake(*caller)?;
             }
@@ -235,6 +272,16 @@ impl Summaries {
                 put(&mut self.parameters, at, InferredPromise::Number(need));
             }
             place = place.saturating_add(1);
+        }
+    }
+}
+
+/// Each promise becomes what it was at first, but for those of addresses outside.
+fn take_back(promises: &mut [InferredPromise], first: &[InferredPromise]) {
+    for at in 0..promises.len() {
+        let now = row_or(promises, at, InferredPromise::Nothing);
+        if !now.is_outside() {
+            put(promises, at, row_or(first, at, InferredPromise::Nothing));
         }
     }
 }
