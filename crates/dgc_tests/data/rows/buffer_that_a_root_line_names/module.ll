@@ -1,0 +1,33 @@
+%N = type { i64, ptr }
+@a = private constant [2 x i8] c"a\00"
+@b = private constant [2 x i8] c"b\00"
+@table = private constant [4 x i32] [i32 1, i32 2, i32 3, i32 4]
+@stderr = external global ptr
+@count = external global i32
+declare i32 @puts(ptr)
+declare ptr @getenv(ptr)
+declare ptr @dg_alloc(i32)
+declare void @dg_safepoint()
+declare void @llvm.gcroot(ptr, ptr)
+declare ptr @llvm.gcread(ptr, ptr)
+declare void @llvm.gcwrite(ptr, ptr, ptr)
+define i32 @f() gc "shadow-stack" {
+entry:
+  %a = alloca [4 x i8]
+  %s = alloca ptr
+  %b = alloca i8, i32 4
+  call void @llvm.gcroot(ptr %s, ptr null)
+  %x = call ptr @dg_alloc(i32 0)
+  store ptr %x, ptr %s
+  call void @dg_safepoint()
+  %y = load ptr, ptr %s
+  %c = icmp ne ptr %y, null
+  br i1 %c, label %ok, label %no
+ok:
+  %z = load ptr, ptr %s
+  %p = getelementptr %N, ptr %z, i32 0, i32 0
+  %n = load i64, ptr %p
+  ret i32 0
+no:
+  ret i32 1
+}

@@ -1,0 +1,13 @@
+%N = type { i64, ptr }
+declare i32 @puts(ptr)
+declare ptr @getenv(ptr)
+declare ptr @dg_alloc(i32)
+declare void @dg_safepoint()
+declare void @llvm.gcroot(ptr, ptr)
+declare ptr @llvm.gcread(ptr, ptr)
+declare void @llvm.gcwrite(ptr, ptr, ptr)
+define i32 @f() gc "shadow-stack" {
+  %1 = alloca [2 x i8]
+  %2 = call i32 @puts(ptr %1)
+  ret i32 0
+}

@@ -1,0 +1,17 @@
+%N = type { i64, ptr }
+declare i32 @puts(ptr)
+declare ptr @getenv(ptr)
+declare ptr @dg_alloc(i32)
+declare void @dg_safepoint()
+declare void @llvm.gcroot(ptr, ptr)
+declare ptr @llvm.gcread(ptr, ptr)
+declare void @llvm.gcwrite(ptr, ptr, ptr)
+define i32 @f() gc "shadow-stack" {
+entry:
+  %a = alloca [4 x i8]
+  %b = alloca [1 x ptr]
+  store ptr %a, ptr %b
+  %p = load ptr, ptr %b
+  %r = call i32 @puts(ptr %p)
+  ret i32 0
+}
