@@ -8,6 +8,7 @@ KINDS = []
 # the words of each command, with the files in the order in which a kind writes them and the number of things, and how its output begins
 WORDS = {
     "check": "check {0} {1}",
+    "check, wide": "check {0} {1} --forms wide",
     "recheck": "recheck {0} {1} {2}",
     "make": "make {0}",
     "migrate": "migrate {0} {1}",
@@ -17,10 +18,11 @@ WORDS = {
     "check, explained": "check {0} {1} --explain always",
     "check, not read": "check {0} {1} --explain always",
     "check, all": "check {0} {1} --all --explain always",
+    "check, each explained": "check {0} {1} --all --limit 100000 --explain always",
     "recheck, explained": "recheck {0} {1} {2} --explain always",
 }
-SAYS = {"check": "yes", "recheck": "yes", "make": "cert 1", "migrate": "cert 2", "replay": "sound", "replay, shapes": "sound", "soak": "sound",
-        "check, explained": "no", "check, not read": "error L5", "check, all": "no", "recheck, explained": "no"}
+SAYS = {"check": "yes", "check, wide": "yes", "recheck": "yes", "make": "cert 1", "migrate": "cert 2", "replay": "sound", "replay, shapes": "sound", "soak": "sound",
+        "check, explained": "no", "check, not read": "error L5", "check, all": "no", "check, each explained": "no", "recheck, explained": "no"}
 
 
 @dataclass

@@ -114,3 +114,21 @@ def unread(n):
 def comments(n):
     """Comments."""
     return HEAD + lines(n, lambda i: f"; comment {i}"), "cert 1\n" + lines(n, lambda i: f"; comment {i}")
+
+
+@kind("trusted functions", 65000, command="check, wide")
+def trusted_functions(n):
+    """Functions outside, each called once."""
+    declares = lines(n, lambda i: f"declare i64 @o{i}(i64)")
+    calls = lines(n, lambda i: f"  %v{i} = call i64 @o{i}(i64 1)")
+    module = f"{declares}define void @f() {{\nentry:\n{calls}{RETURNS}}}\n"
+    return module, "cert 1\n" + lines(n, lambda i: f"foreign @o{i} none") + "function @f none\nend\n"
+
+
+@kind("layouts with numbers", 65000, command="check, wide")
+def numbered_layouts(n):
+    """Layouts with a number each, of which a cell is made once."""
+    structs = lines(n, lambda i: f"%T{i} = type {{ i64 }}")
+    calls = lines(n, lambda i: f"  %v{i} = call i8* @dg_alloc(i32 {n - i})")
+    module = f'{structs}declare i8* @dg_alloc(i32)\ndefine void @f() gc "shadow-stack" {{\nentry:\n{calls}{RETURNS}}}\n'
+    return module, "cert 1\n" + lines(n, lambda i: f"number T{i} {i + 1}") + "function @f may\nend\n"

@@ -180,6 +180,7 @@ def refused_blocks(n):
     return function(body, lines(n + 1, lambda i: f"block %b{i}"))
 
 
+@kind("functions that are refused, each explained", 65000, command="check, each explained")
 @kind("functions that are refused, explained", 65000, command="check, all")
 def refused_functions(n):
     """Functions that each load from null."""
