@@ -36,6 +36,7 @@ DECORATIONS = re.compile(r"(?<![\w%@.$-])(noundef|nonnull|nocapture|readonly|rea
                          r"local_unnamed_addr|unnamed_addr|fastcc|tail|notail|dereferenceable(_or_null)?\(\d+\)|align \d+(?=[ ,)])|dead_on_return|"
                          r"(captures|range|initializes|memory|nofpclass)\(([^()]|\([^()]*\))*\))(?![\w.$:-]) ?")
 NAME = r"%[-\w.$]+"
+LOCAL = re.compile(rf"({NAME}) = alloca (?!.*, i\d+ %)(.*)$")  # one whose count is computed stays where it is
 REFERENCE = re.compile(r"%struct\.\w+\*$|i8\*$|ptr$")
 SAFEPOINT = "call void @dg_safepoint()"
 CALL = r"\bcall (?P<result>\S+) (?:\([^()]*\) )?@(?P<callee>[\w.$]+)\("  # the types of the parameters may stand before the name
@@ -280,7 +281,7 @@ class Lowering:
 
     def end_of_allocas(self):
         block = self.f.blocks[self.f.entry]
-        return max([at + 1 for at, line in enumerate(block) if " = alloca " in line], default=0)
+        return max([at + 1 for at, line in enumerate(block) if LOCAL.match(line)], default=0)
 
     def base_of(self, made, place):
         """The reference whose cell an address lies in."""
@@ -325,15 +326,15 @@ class Lowering:
         return lines + [f"call void @llvm.gcwrite(i8* {stored}, i8* {owner}, i8** {word})"]
 
     def add_roots(self):
-        """Puts the allocas first, and makes a root of each slot of references."""
+        """Puts the allocas first, and makes a root of each slot of references. An array, a struct and what is counted is none."""
         block = self.f.blocks[self.f.entry]
-        allocas = [line for line in block if " = alloca " in line] + [f"{name} = alloca {kind}" for name, kind in self.slots]
+        allocas = [line for line in block if LOCAL.match(line)] + [f"{name} = alloca {kind}" for name, kind in self.slots]
         roots = []
         for line in allocas:
-            name, kind = re.match(rf"({NAME}) = alloca (\S+)", line).groups()
+            name, kind = LOCAL.match(line).groups()
             if REFERENCE.match(kind):
                 roots += self.root(name, kind)
-        block[:] = allocas + roots + [line for line in block if " = alloca " not in line]
+        block[:] = allocas + roots + [line for line in block if not LOCAL.match(line)]
 
     def root(self, name, kind):
         if kind == "ptr":

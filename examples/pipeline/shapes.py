@@ -143,7 +143,7 @@ class Body:
 
     def read(self, line):
         made, _, rest = line.partition(" = ") if re.match(rf"{NAME} = ", line) else (None, "", line)
-        if rest.startswith("alloca ptr"):
+        if re.match(r"alloca ptr(, align \d+)?$", rest):
             self.slots.add(made)
         elif found := re.match(rf"load ptr, ptr ({VALUE})", rest):
             self.hold(found[1], made)
